@@ -1,0 +1,136 @@
+//! What the oracle says of a record: an answer, a mark, and the state after it.
+
+use crate::storage::page_cache::inspect::RingEntry;
+use std::fmt;
+
+/// Document 01's answer codes, as far as the Rust can give them.
+pub mod code {
+    pub const DONE: u8 = 0;
+    pub const ABSENT: u8 = 4;
+    pub const LOCKED: u8 = 5;
+    pub const DIRTY: u8 = 6;
+    pub const PINNED: u8 = 7;
+    pub const FULL: u8 = 8;
+    pub const KEY_EXISTS: u8 = 9;
+    pub const RESIZE_PENDING: u8 = 10;
+    pub const NOTHING_HELD: u8 = 14;
+    pub const SPILL_NOT_NEEDED: u8 = 18;
+    pub const NONE_SELECTED: u8 = 19;
+}
+
+/// Why the Rust isn't asked. The order is the one in which they are tested.
+#[derive(Clone, Copy, Debug, PartialEq, Eq, PartialOrd, Ord)]
+pub enum Mark {
+    /// Bad operation, option or tail: 01's code 17.
+    Record,
+    /// Nothing was created yet: 01's code 1.
+    NoCache,
+    /// Capacity above the slots: 01's code 15.
+    Capacity,
+    /// Flags above 31: 01's code 2.
+    Flags,
+    /// The handle stands under another key: 01's code 12.
+    HandleTaken,
+    /// The key stands with another handle, where the Rust asserts: 01's code 11.
+    OtherPage,
+    /// The key's own handle with another record. In the Rust it is one page, so
+    /// there can't be two records: outside 01's domain.
+    OtherRecord,
+    /// A forced insertion without a free slot, which the Rust doesn't have:
+    /// 01's code 13.
+    Slots,
+}
+
+impl Mark {
+    pub const ALL: [Mark; 8] = [
+        Mark::Record,
+        Mark::NoCache,
+        Mark::Capacity,
+        Mark::Flags,
+        Mark::HandleTaken,
+        Mark::OtherPage,
+        Mark::OtherRecord,
+        Mark::Slots,
+    ];
+
+    pub fn reason(self) -> &'static str {
+        match self {
+            Mark::Record => "record",
+            Mark::NoCache => "no cache",
+            Mark::Capacity => "capacity",
+            Mark::Flags => "flags",
+            Mark::HandleTaken => "handle taken",
+            Mark::OtherPage => "other page",
+            Mark::OtherRecord => "other record",
+            Mark::Slots => "slots",
+        }
+    }
+}
+
+/// What the replay program prints of one call.
+#[derive(Clone, Debug, PartialEq, Eq)]
+pub struct Answer {
+    pub code: u8,
+    /// Found or replaced handle, refusing key, number selected, else 0.
+    pub value: u64,
+    /// Pages passed by all sweeps of the call.
+    pub passed: u64,
+    pub held: usize,
+    /// The key of the hand's page.
+    pub hand: Option<u32>,
+    /// Handles removed or selected.
+    pub list: Vec<u32>,
+}
+
+#[derive(Clone, Debug, PartialEq, Eq)]
+pub enum Outcome {
+    Answer(Answer),
+    Mark(Mark),
+}
+
+/// The replay program's line, or `?` and the mark's reason.
+impl fmt::Display for Outcome {
+    fn fmt(&self, line: &mut fmt::Formatter) -> fmt::Result {
+        let answer = match self {
+            Outcome::Mark(mark) => return write!(line, "? {}", mark.reason()),
+            Outcome::Answer(answer) => answer,
+        };
+        write!(
+            line,
+            "{} {} {} {} ",
+            answer.code, answer.value, answer.passed, answer.held
+        )?;
+        match answer.hand {
+            Some(key) => write!(line, "{key}")?,
+            None => line.write_str("-")?,
+        }
+        write!(line, " {}", answer.list.len())?;
+        for handle in &answer.list {
+            write!(line, " {handle}")?;
+        }
+        Ok(())
+    }
+}
+
+/// The whole state of the cache.
+#[derive(Clone, Debug, PartialEq, Eq)]
+pub struct State {
+    pub capacity: usize,
+    pub spill_enabled: bool,
+    pub estimate: usize,
+    /// In sweep order from the hand.
+    pub ring: Vec<RingEntry>,
+}
+
+/// `- CAPACITY SPILL ESTIMATE HELD`, then `KEY:HANDLE:USES` for each page.
+impl fmt::Display for State {
+    fn fmt(&self, line: &mut fmt::Formatter) -> fmt::Result {
+        let spill = u8::from(self.spill_enabled);
+        let held = self.ring.len();
+        write!(line, "- {} {spill} {} {held}", self.capacity, self.estimate)?;
+        for RingEntry { key, handle, uses } in &self.ring {
+            write!(line, " {key}:{handle}:{uses}")?;
+        }
+        Ok(())
+    }
+}

@@ -1,0 +1,3 @@
+//! What the cache knows as `crate::sync`: here the standard library's own.
+
+pub use std::sync::{atomic, Arc};

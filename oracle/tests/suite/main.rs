@@ -1,0 +1,12 @@
+//! The oracle's own tests.
+
+mod binary;
+mod files;
+mod generators;
+mod marks;
+mod pool;
+mod readings;
+mod records;
+mod sample;
+mod source;
+mod sweeps;

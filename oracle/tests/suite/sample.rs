@@ -1,0 +1,70 @@
+//! The fixed sample is what the commands in its README make, and it has every
+//! operation and every answer that the Rust can give.
+
+use crate::binary::output_of;
+use std::collections::BTreeSet;
+
+const RECORDS: &[u8] = include_bytes!("../../sample/records.bin");
+const ANSWERS: &str = include_str!("../../sample/answers.txt");
+
+/// The commands of the sample's README.
+const GENERATE: [&str; 7] = [
+    "generate",
+    "random",
+    "--seed",
+    "114",
+    "--records",
+    "4000",
+    "--exact",
+];
+const REPLAY: [&str; 2] = ["replay", "--by-key"];
+
+#[test]
+fn the_records_are_generated() {
+    assert!(output_of(&GENERATE, &[]) == RECORDS, "records.bin differs");
+}
+
+#[test]
+fn the_answers_are_the_rusts() {
+    let answers = String::from_utf8(output_of(&REPLAY, RECORDS)).expect("lines are text");
+    for (number, (new, kept)) in answers.lines().zip(ANSWERS.lines()).enumerate() {
+        assert_eq!(new, kept, "record {number}");
+    }
+    assert!(answers == ANSWERS, "answers.txt differs in length");
+}
+
+#[test]
+fn the_readme_has_these_commands() {
+    let readme = include_str!("../../sample/README.md");
+    for command in [GENERATE.join(" "), REPLAY.join(" ")] {
+        assert!(readme.contains(&command), "{command}");
+    }
+}
+
+#[test]
+fn every_operation_and_every_answer_is_in_it() {
+    let operations: BTreeSet<u8> = RECORDS.chunks(32).map(|record| record[0]).collect();
+    assert!(operations.into_iter().eq(0..=16));
+    let codes: BTreeSet<u8> = ANSWERS
+        .lines()
+        .map(|line| line.split(' ').next().unwrap().parse().expect("no marks"))
+        .collect();
+    assert!(codes.into_iter().eq([0, 4, 5, 6, 7, 8, 9, 10, 14, 18, 19]));
+}
+
+#[test]
+fn a_full_pool_and_walks_over_several_pages_are_in_it() {
+    let field = |line: &str, place: usize| line.split(' ').nth(place).map(str::to_owned);
+    let held = |line: &str| field(line, 3);
+    assert!(ANSWERS
+        .lines()
+        .any(|line| held(line).as_deref() == Some("256")));
+    for walk in [8, 9, 10] {
+        let removed_several = RECORDS
+            .chunks(32)
+            .zip(ANSWERS.lines())
+            .filter(|(record, _)| record[0] == walk)
+            .any(|(_, line)| field(line, 5).unwrap().parse::<u32>().unwrap() > 1);
+        assert!(removed_several, "operation {walk}");
+    }
+}
