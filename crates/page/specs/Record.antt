@@ -1,0 +1,48 @@
+-- What a page record says of its page (01, "Memory, pages and numbers", and rules 6, 8 and 9). Assumes nothing.
+use mathlib.Core.Bool.{Bool, cond, not, _&&_, _||_}
+use Prim.Native.Nat.{ℕ}
+use lib.Bits.{bitAnd}
+use lib.Dec.{eqb, leb}
+use Rattle.page.specs.declared.record.PageRecord.{PageRecord}
+use Rattle.page.specs.declared.record.Deletable.{Deletable}
+use Rattle.page.specs.declared.record.Deletable.the-variants.{Yes, Locked, Dirty, Pinned}
+
+-- ── flags: 1 loaded, 2 locked, 4 dirty, 8 spilled, 16 WAL tag ────────────────
+abbrev pub flagged : ℕ → PageRecord → Bool
+flagged flag p = not (eqb (bitAnd (p .flags) flag) 0)
+
+abbrev pub loaded : PageRecord → Bool
+loaded = flagged 1
+
+abbrev pub locked : PageRecord → Bool
+locked = flagged 2
+
+abbrev pub dirty : PageRecord → Bool
+dirty = flagged 4
+
+abbrev pub spilled : PageRecord → Bool
+spilled = flagged 8
+
+abbrev pub tagged : PageRecord → Bool
+tagged = flagged 16
+
+-- ── counts ───────────────────────────────────────────────────────────────────
+-- pinned means pins > 0
+abbrev pub pinned : PageRecord → Bool
+pinned p = not (eqb (p .pins) 0)
+
+-- somebody else than the cache holds the page
+abbrev pub held : PageRecord → Bool
+held p = not (eqb (p .holders) 0)
+
+-- ── what the rules ask ───────────────────────────────────────────────────────
+-- neither loaded nor locked
+abbrev pub stale : PageRecord → Bool
+stale p = not (loaded p) && not (locked p)
+
+abbrev pub cleanOrSpilled : PageRecord → Bool
+cleanOrSpilled p = not (dirty p) || spilled p
+
+-- rule 8: deletion tests locked, dirty, pinned, in that order
+abbrev pub deletable : PageRecord → Deletable
+deletable p = cond (locked p) Locked (cond (dirty p) Dirty (cond (pinned p) Pinned Yes))
