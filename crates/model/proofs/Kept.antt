@@ -1,0 +1,62 @@
+-- What a cache keeps from its creation on, call by call: a test that refuses changes nothing, and every rule keeps the limits.
+-- Assumes nothing.
+use mathlib.Core.List.{List, [], _∷_}
+use mathlib.Core.Path.{_≡_, refl, ap}
+use Prim.Native.Nat.{ℕ, zero, suc, _≤_}
+use native.Mathlib.Omega.{arith}
+use lib.ListN.{length}
+use Rattle.model.specs.Cache.{Cache, heldIn, fresh}
+use Rattle.model.specs.Call.{Call, answer}
+use Rattle.model.specs.Step.{tested, step, run}
+use Rattle.model.specs.Tests.{refusal}
+use Rattle.model.specs.Limits.{Kept, Proper, AllProper}
+use Rattle.model.proofs.KeptTests.{passes}
+use Rattle.model.proofs.KeptLeaves.{Unchanged, Leaves, leaves-same}
+use Rattle.model.proofs.KeptRules.{act-leaves}
+pub use Rattle.model.proofs.KeptPages.{fresh-kept}
+pub use Rattle.model.proofs.KeptSize.{step-size}
+
+-- ── a call ───────────────────────────────────────────────────────────────────
+-- a test that fails is the whole answer
+pub refused-unchanged : (call : Call) (c : Cache) (n : ℕ) → refusal call c ≡ suc n → step call c ≡ answer (suc n) 0 c
+unfolding step
+refused-unchanged call c n h = ap (λ (code : ℕ). tested code call c) h
+
+step-leaves : (call : Call) (c : Cache) → Kept c → Leaves c (heldIn c) (Proper call) (step call c)
+unfolding step
+step-leaves call c k = go (refusal call c) refl
+  where
+    go : (code : ℕ) → refusal call c ≡ code → Leaves c (heldIn c) (Proper call) (tested code call c)
+    go zero h = act-leaves call c k (passes call c h)
+    go (suc n) h = leaves-same c (suc n) 0 k
+
+pub step-kept : (call : Call) (c : Cache) → Proper call → Kept c → Kept (step call c .cache)
+step-kept call c proper k = step-leaves call c k .kept proper
+
+-- a list as long as held has room for what a call lists
+pub listed-bound : (call : Call) (c : Cache) → Kept c → length (step call c .listed) ≤ heldIn c
+listed-bound call c k = step-leaves call c k .listed
+
+-- the codes 11, 12, 13, 14, 15, 18 and 19 leave all unchanged
+pub high-code-unchanged : (call : Call) (c : Cache) → Kept c → 11 ≤ step call c .code → Unchanged c (step call c)
+high-code-unchanged call c k = step-leaves call c k .refused
+
+-- the key exists with another handle
+pub code-11-unchanged : (call : Call) (c : Cache) → Kept c → step call c .code ≡ 11
+    → (step call c .cache ≡ c) × (step call c .listed ≡ [])
+code-11-unchanged call c k h = let u = high-code-unchanged call c k (omega arith) in (u .cache, u .listed)
+
+-- forced, and held = S after the attempt
+pub code-13-unchanged : (call : Call) (c : Cache) → Kept c → step call c .code ≡ 13
+    → (step call c .cache ≡ c) × (step call c .listed ≡ [])
+code-13-unchanged call c k h = let u = high-code-unchanged call c k (omega arith) in (u .cache, u .listed)
+
+-- ── calls from the creation on ───────────────────────────────────────────────
+steps-kept : (calls : List Call) (c : Cache) → AllProper calls → Kept c → Kept (run calls c)
+unfolding run
+steps-kept [] c proper k = k
+steps-kept (call ∷ calls) c proper k = steps-kept calls (step call c .cache) (proper .1) (step-kept call c (proper .0) k)
+
+pub run-kept : (size capacity : ℕ) → capacity ≤ size → (calls : List Call) → AllProper calls
+    → Kept (run calls (fresh size capacity))
+run-kept size capacity h calls proper = steps-kept calls (fresh size capacity) proper (fresh-kept size capacity h)

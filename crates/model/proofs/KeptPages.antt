@@ -1,0 +1,155 @@
+-- Every change of one page keeps the limits: a page that stands in the row goes, is touched, has its record written, or gives
+-- its place to another, and the row splits there. Assumes nothing.
+use mathlib.Core.Bool.{Bool}
+use mathlib.Core.List.{_∷_, _++_}
+use mathlib.Core.Option.{Option, none, some}
+use mathlib.Core.Path.{_≡_, refl}
+use Prim.Native.Nat.{ℕ, suc, _≤_, _<_, _^_}
+use native.Mathlib.Omega.{arith}
+use lib.ListN.{length, length-append}
+use Rattle.page.specs.declared.record.PageRecord.{PageRecord}
+use Rattle.model.specs.Row.{Page, Entry, Row, Each, find, change, without}
+use Rattle.model.specs.Sweep.{touched}
+use Rattle.model.specs.Cache.{Cache, withRow, withEstimate, withCapacity, withSpill, fresh, pageCounts, estimateMax, countIn, countOut, countOver, leave, touch, rewritten, rewrite, replaced, replacedEntry, replace}
+use Rattle.model.specs.Limits.{Fit, Good, Kept}
+use Rattle.model.proofs.Rows.{each-middle}
+use Rattle.model.proofs.Numbers.{OtherHandle, apart-others}
+use Rattle.model.proofs.ByKey.{Stands, stands-without, stands-change, stands-own, stands-changed, find-stands, find-none, without-none}
+use Rattle.model.proofs.KeptCases.{one-of}
+use Rattle.model.proofs.KeptRows.{Fits, fits-remove, fits-change, kept-fits, fits-kept}
+use Rattle.model.proofs.KeptRooms.{count-out-le}
+
+-- ── the estimate ─────────────────────────────────────────────────────────────
+abbrev InRange : ℕ → Type 0
+InRange n = n ≤ estimateMax
+
+pub count-in-range : (p : Page) (n : ℕ) → n ≤ estimateMax → countIn p n ≤ estimateMax
+count-in-range p n h = one-of InRange (pageCounts p) (omega arith) h
+
+count-over-range : (old new : Page) (n : ℕ) → n ≤ estimateMax → countOver old new n ≤ estimateMax
+count-over-range old new n h = one-of InRange (pageCounts old)
+    (one-of InRange (pageCounts new) h (omega arith))
+    (one-of InRange (pageCounts new) (omega arith) h)
+
+-- ── the cache's own fields ───────────────────────────────────────────────────
+pub fresh-kept : (size capacity : ℕ) → capacity ≤ size → Kept (fresh size capacity)
+fresh-kept size capacity h = record {
+  held = omega arith;
+  capacity = h;
+  estimate = omega arith;
+  good = tt;
+  slots = tt;
+  keys = tt;
+  handles = tt;
+}
+
+pub capacity-kept : (capacity : ℕ) (c : Cache) → Kept c → capacity ≤ c .size → Kept (withCapacity capacity c)
+capacity-kept capacity c k h = record {
+  held = k .held;
+  capacity = h;
+  estimate = k .estimate;
+  good = k .good;
+  slots = k .slots;
+  keys = k .keys;
+  handles = k .handles;
+}
+
+pub switch-kept : (on : Bool) (c : Cache) → Kept c → Kept (withSpill on c)
+switch-kept on c k = record {
+  held = k .held;
+  capacity = k .capacity;
+  estimate = k .estimate;
+  good = k .good;
+  slots = k .slots;
+  keys = k .keys;
+  handles = k .handles;
+}
+
+-- ── a page goes ──────────────────────────────────────────────────────────────
+-- the row without a key, be the key there or not
+fits-without : (size key : ℕ) (row : Row) → Fits size row → Fits size (without key row)
+fits-without size key row f = go (find key row) refl
+  where
+    go : (v : Option Entry) → find key row ≡ v → Fits size (without key row)
+    go none q = rw (without-none key row (find-none key row q)) f
+    go (some e) q =
+        let s = find-stands key row e q in
+        rw (stands-without key row e s) (fits-remove size (s .before) e (s .after) (rw (s .parts) at f))
+
+pub leave-kept : (p : Page) (c : Cache) → Kept c → Kept (leave p c)
+leave-kept p c k = fits-kept c (without (p .key) (c .row)) (countOut p (c .estimate)) k
+    (omega (arith, k .estimate, count-out-le p (c .estimate))) (fits-without (c .size) (p .key) (c .row) (kept-fits c k))
+
+-- a page that stood there leaves one page less
+pub without-held : (key : ℕ) (row : Row) (e : Entry) → Stands key row e → suc (length (without key row)) ≡ length row
+without-held key row e s = rw (stands-without key row e s, s .parts)
+    (omega (arith, length-append (s .before) (e ∷ s .after), length-append (s .before) (s .after)))
+
+-- ── a page is changed where it stands ────────────────────────────────────────
+module _ (c : Cache) (k : Kept c) (key : ℕ) (e : Entry) (s : Stands key (c .row) e) where
+  split : Fits (c .size) (s .before ++ e ∷ s .after)
+  split = rw (s .parts) at (kept-fits c k)
+
+  pub stands-good : Good (c .size) e
+  stands-good = each-middle (Good (c .size)) (s .before) e (s .after) (split .good)
+
+  other-handles : Each (OtherHandle (e .page .handle)) (s .before ++ s .after)
+  other-handles = apart-others (λ p. p .handle) (s .before) e (s .after) (split .handles)
+
+  -- by f, and with n as the estimate
+  change-kept : (f : Entry → Entry) (n : ℕ) → n ≤ estimateMax → Good (c .size) (f e)
+      → f e .page .slot ≡ e .page .slot → f e .page .key ≡ e .page .key → Each (OtherHandle (f e .page .handle)) (s .before ++ s .after)
+      → Kept (withEstimate n (withRow (change key f (c .row)) c))
+  change-kept f n l g slot same-key handle = fits-kept c (change key f (c .row)) n k l (rw (stands-change key (c .row) e s f) changed)
+    where
+      changed : Fits (c .size) (s .before ++ f e ∷ s .after)
+      changed = fits-change (c .size) (s .before) e (f e) (s .after) g slot same-key handle split
+
+  pub touch-kept : Kept (touch key c)
+  touch-kept =
+      let g : Good (c .size) (touched e) = record {
+        slot = stands-good .slot;
+        key = stands-good .key;
+        handle = stands-good .handle;
+        flags = stands-good .flags;
+        fit = stands-good .fit;
+        uses = omega arith;
+      } in
+      change-kept touched (c .estimate) (k .estimate) g refl refl other-handles
+
+  pub rewrite-kept : (state : PageRecord) → state .flags ≤ 31 → Fit state → Kept (rewrite key state c)
+  rewrite-kept state flags fit =
+      let g : Good (c .size) (rewritten state e) = record {
+        slot = stands-good .slot;
+        key = stands-good .key;
+        handle = stands-good .handle;
+        flags = flags;
+        fit = fit;
+        uses = stands-good .uses;
+      } in
+      change-kept (rewritten state) (c .estimate) (k .estimate) g refl refl other-handles
+
+-- another page in its place, with a handle that no other page has
+replace-kept : (c : Cache) → Kept c → (e : Entry) (s : Stands (e .page .key) (c .row) e) (handle : ℕ) (state : PageRecord)
+    → handle < 2 ^ 32 → state .flags ≤ 31 → Fit state → Each (OtherHandle handle) (s .before ++ s .after)
+    → Kept (replace (e .page) handle state c)
+replace-kept c k e s handle state small flags fit new-handle =
+    let old : Good (c .size) e = stands-good c k (e .page .key) e s in
+    let g : Good (c .size) (replacedEntry handle state e) = record {
+      slot = old .slot;
+      key = old .key;
+      handle = small;
+      flags = flags;
+      fit = fit;
+      uses = old .uses;
+    } in
+    let new : Page = replaced handle state (e .page) in
+    change-kept c k (e .page .key) e s (replacedEntry handle state) (countOver (e .page) new (c .estimate))
+    (count-over-range (e .page) new (c .estimate) (k .estimate)) g refl refl new-handle
+
+-- a touch first
+pub upsert-kept : (c : Cache) → Kept c → (key : ℕ) (e : Entry) (s : Stands key (c .row) e) (handle : ℕ) (state : PageRecord)
+    → handle < 2 ^ 32 → state .flags ≤ 31 → Fit state → Each (OtherHandle handle) (s .before ++ s .after)
+    → Kept (replace (e .page) handle state (touch key c))
+upsert-kept c k key e s = replace-kept (touch key c) (touch-kept c k key e s) (touched e)
+    (stands-own key (touch key c .row) (touched e) (stands-changed key (c .row) e s touched (s .named)))

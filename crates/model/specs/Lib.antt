@@ -1,0 +1,12 @@
+pub mod Row
+pub mod Sweep
+pub mod Demand
+pub mod Cache
+pub mod Call
+pub mod Tests
+pub mod Rooms
+pub mod Rules
+pub mod Spill
+pub mod Step
+pub mod Limits
+pub mod Examples

@@ -1,0 +1,62 @@
+-- What a cache keeps from its creation on. Assumes nothing.
+use mathlib.Core.List.{List, [], _∷_}
+use mathlib.Core.Logic.{_≢_}
+use Prim.Native.Nat.{ℕ, _≤_, _<_, _^_}
+use Rattle.page.specs.declared.record.PageRecord.{PageRecord}
+use Rattle.model.specs.Row.{Page, Entry, Row, Each}
+use Rattle.model.specs.Demand.{Limited}
+use Rattle.model.specs.Cache.{Cache, heldIn, estimateMax}
+use Rattle.model.specs.Call.{Call, create, insert, lookup, peek, delete, resize, truncate, remove-frames, clear, notify-dirty, notify-spilled, write, spill, evict-one, switch}
+
+-- no two entries of the row have the same number, their key, handle or slot
+abbrev pub Apart : (Page → ℕ) → Row → Type 0
+Apart number [] = Unit {0}
+Apart number (e ∷ es) = Each (λ x. number (e .page) ≢ number (x .page)) es × Apart number es
+
+-- a page record within its limits
+pub record Fit (p : PageRecord) : Type 0 where
+  pub pins : p .pins < 2 ^ 16
+  pub holders : p .holders < 2 ^ 16
+  pub cells : p .cells < 2 ^ 8
+  pub frame : p .frame < 2 ^ 64
+
+-- a held page within its limits
+pub record Good (size : ℕ) (e : Entry) : Type 0 where
+  pub slot : e .page .slot < size
+  pub key : e .page .key < 2 ^ 32
+  pub handle : e .page .handle < 2 ^ 32
+  pub flags : e .page .state .flags ≤ 31
+  pub fit : Fit (e .page .state)
+  pub uses : Limited e
+
+pub record Kept (c : Cache) : Type 0 where
+  pub held : heldIn c ≤ c .size
+  pub capacity : c .capacity ≤ c .size
+  pub estimate : c .estimate ≤ estimateMax
+  pub good : Each (Good (c .size)) (c .row)
+  pub slots : Apart (λ p. p .slot) (c .row)
+  pub keys : Apart (λ p. p .key) (c .row)
+  pub handles : Apart (λ p. p .handle) (c .row)
+
+-- the arguments of a call are of their kind: 32 bits for keys and handles, a page record's fields within their limits.
+-- Flags are tested (code 2), and other numbers may be any
+abbrev pub Proper : Call → Type 0
+Proper (create n) = Unit {0}
+Proper (insert how key handle p l) = (key < 2 ^ 32) × (handle < 2 ^ 32) × Fit p
+Proper (lookup key l) = Unit {0}
+Proper (peek key touch) = Unit {0}
+Proper (delete key l) = Unit {0}
+Proper (resize n l) = Unit {0}
+Proper (truncate limit l) = Unit {0}
+Proper (remove-frames limit l) = Unit {0}
+Proper (clear dirty-too l) = Unit {0}
+Proper (notify-dirty key) = Unit {0}
+Proper (notify-spilled key) = Unit {0}
+Proper (write key p) = Fit p
+Proper (spill most l) = Unit {0}
+Proper (evict-one l) = Unit {0}
+Proper (switch on) = Unit {0}
+
+abbrev pub AllProper : List Call → Type 0
+AllProper [] = Unit {0}
+AllProper (call ∷ calls) = Proper call × AllProper calls
