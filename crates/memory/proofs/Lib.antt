@@ -1,0 +1,11 @@
+pub mod Columns
+pub mod Seats
+pub mod Marks
+pub mod Rows
+pub mod Standing
+pub mod OnceEntries
+pub mod Once
+pub mod OnceRefused
+pub mod OnceExamples
+pub mod OnceKept
+pub mod Walks

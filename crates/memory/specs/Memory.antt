@@ -1,0 +1,30 @@
+-- The lent memory as one value. Assumes nothing.
+use mathlib.Core.List.{List}
+use Prim.Native.Nat.{ℕ}
+use denote.Ref.{RefT}
+use denote.Triple.Both.{Both}
+
+pub record Memory : Type 0 where
+  pub slots : List ℕ
+  pub by-key : List ℕ
+  pub by-handle : List ℕ
+  pub marks : List ℕ
+
+-- ── in a contract ────────────────────────────────────────────────────────────
+-- a lent slice, and one at entry and at exit
+abbrev pub Lent : Type 0
+Lent = RefT (List ℕ)
+
+abbrev pub LentBoth : Type 0
+LentBoth = Both Lent Lent
+
+-- the memory that these slices are: for a `requires`
+abbrev pub memory : Lent → Lent → Lent → Lent → Memory
+memory slots by-key by-handle marks = record { slots = slots .now; by-key = by-key .now; by-handle = by-handle .now; marks = marks .now }
+
+-- the same at entry and at exit: for an `ensures`
+abbrev pub memories : LentBoth → LentBoth → LentBoth → LentBoth → Both Memory Memory
+memories slots by-key by-handle marks = record {
+  entry = memory (slots .entry) (by-key .entry) (by-handle .entry) (marks .entry);
+  exit = memory (slots .exit) (by-key .exit) (by-handle .exit) (marks .exit);
+}

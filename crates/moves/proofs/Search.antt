@@ -1,0 +1,160 @@
+-- What a search of an index says of the row. The index lists the seats, a seat's name is its entry's, and no two seats share
+-- one: so a name that is found is the entry's, and one that isn't found is no entry's. Assumes nothing.
+use mathlib.Core.Path.{_≡_, refl, sym, ap, _∙_, subst}
+use mathlib.Core.Bool.{Bool, true, false, not, _&&_, true≢false}
+use mathlib.Core.List.{List, [], _∷_, _++_}
+use mathlib.Core.Logic.{_≢_}
+use mathlib.Core.Option.{none, some}
+use Prim.Native.Nat.{ℕ, _<_}
+use native.Mathlib.Decide.{ℕ-discrete}
+use lib.Dec.{eqb}
+use lib.ListN.{length, getD, length-map}
+use borrow.Author.Tests.{eq-eqb, ne-eqb}
+use Rattle.page.specs.declared.cache.PageCache.{PageCache}
+use Rattle.page.specs.declared.entry.PageCacheEntry.{PageCacheEntry}
+use Rattle.pool.specs.Slots.{blank, entries}
+use Rattle.pool.specs.Ring.{has}
+use Rattle.order.specs.Names.{names}
+use Rattle.order.specs.Index.{Index, Hit, Miss}
+use Rattle.order.specs.declared.search.By.{By}
+use Rattle.order.specs.declared.search.By.the-variants.{Key, Handle}
+use Rattle.order.proofs.Ascending.{ascending}
+use Rattle.order.proofs.Names.{name-at}
+use Rattle.order.proofs.Listed.{hit-seat, hit-is, miss-absent}
+use Rattle.model.specs.Cache.{Cache}
+use Rattle.model.specs.Row.{Entry, Row, Each, find, without}
+use Rattle.model.specs.Limits.{Apart}
+use Rattle.model.specs.Tests.{underOther}
+use Rattle.model.proofs.Numbers.{OtherKey, apart-others}
+use Rattle.model.proofs.ByKey.{find-stands, find-none, none-find, stands-without}
+use Rattle.memory.specs.Memory.{Memory}
+use Rattle.memory.specs.Holds.{seen, rowOf, Holds}
+use Rattle.memory.proofs.Rows.{each-seat, seat-each}
+use Rattle.memory.proofs.Standing.{each-without, seat-found}
+use Rattle.moves.specs.Moves.{KeyAt, NewNames}
+
+-- what stands at a place of an index is a slot
+pub index-slot : (by : By) (es : List PageCacheEntry) {order : List ℕ} {n at : ℕ} → Index (names by es) order n → at < n
+    → getD order at 0 < length es
+index-slot by es i h = simp length-map at (ascending i .inside _ h)
+
+-- ── a handle under another key ───────────────────────────────────────────────
+module _ (key handle : ℕ) where
+  -- the entry has another handle, or the key
+  abbrev pub Fits : Entry → Type 0
+  Fits x = x .page .handle ≡ handle → x .page .key ≡ key
+
+  abbrev misfit : Entry → Bool
+  misfit x = eqb (x .page .handle) handle && not (eqb (x .page .key) key)
+
+  misfit-not : (x : Entry) → Fits x → misfit x ≡ false
+  misfit-not x fits = go (ℕ-discrete (x .page .handle) handle)
+    where
+      go : Dec (x .page .handle ≡ handle) → misfit x ≡ false
+      go (yes q) = rw (eq-eqb (x .page .handle) handle q, eq-eqb (x .page .key) key (fits q))
+      go (no other) = rw (ne-eqb (x .page .handle) handle other)
+
+  fits-not : (x : Entry) → misfit x ≡ false → Fits x
+  fits-not x h q = go (ℕ-discrete (x .page .key) key)
+    where
+      go : Dec (x .page .key ≡ key) → x .page .key ≡ key
+      go (yes same) = same
+      go (no other) = absurd (true≢false (rw (eq-eqb (x .page .handle) handle q, ne-eqb (x .page .key) key other) at h))
+
+  pub under-each : (row : Row) → underOther key handle row ≡ false → Each Fits row
+  unfolding underOther
+  under-each [] h = tt
+  under-each (x ∷ row) h = go (misfit x) refl (under-each row)
+    where
+      go : (b : Bool) → misfit x ≡ b → (underOther key handle row ≡ false → Each Fits row) → Each Fits (x ∷ row)
+      go true q rest = absurd (true≢false (rw (q, underOther) at h))
+      go false q rest = (fits-not x q, rest (rw (q, underOther) at h))
+
+  pub each-under : (row : Row) → Each Fits row → underOther key handle row ≡ false
+  unfolding underOther
+  each-under [] all = refl
+  each-under (x ∷ row) all = rw (misfit-not x (all .0), underOther) (each-under row (all .1))
+
+-- ── names that are new to a row ──────────────────────────────────────────────
+module _ (key handle : ℕ) where
+  -- a key that no entry has, and a handle that no entry has under another key
+  others-new : (row : Row) → Each (OtherKey key) row → Each (Fits key handle) row → NewNames key handle row
+  others-new row others fits = record { keys = others; handles = go row others fits }
+    where
+      go : (row : Row) → Each (OtherKey key) row → Each (Fits key handle) row → Each (λ x. handle ≢ x .page .handle) row
+      go [] others fits = tt
+      go (x ∷ row) others fits = ((λ q. others .0 (sym (fits .0 (sym q)))), go row (others .1) (fits .1))
+
+  pub absent-new : (row : Row) → find key row ≡ none → underOther key handle row ≡ false → NewNames key handle row
+  absent-new row absent free = others-new row (find-none key row absent) (under-each key handle row free)
+
+  -- and a key whose entry has gone
+  pub left-new : (row : Row) (e : Entry) → Apart (λ p. p .key) row → find key row ≡ some e → underOther key handle row ≡ false
+      → NewNames key handle (without key row)
+  left-new row e apart found free =
+      let f = find-stands key row e found in
+      let apart-here : Apart (λ p. p .key) (f .before ++ e ∷ f .after) = subst (Apart (λ p. p .key)) (f .parts) apart in
+      let others : Each (OtherKey key) (f .before ++ f .after) =
+      subst (λ (k : ℕ). Each (OtherKey k) (f .before ++ f .after)) (f .named) (apart-others (λ p. p .key) (f .before) e (f .after) apart-here) in
+      others-new (without key row) (subst (Each (OtherKey key)) (sym (stands-without key row e f)) others)
+      (each-without (Fits key handle) key row e found (under-each key handle row free))
+
+-- ── what is found, and what isn't ────────────────────────────────────────────
+module _ {m : Memory} {head : PageCache} {c : Cache} {n : ℕ} (H : Holds m head c) (held : head .held ≡ n) where
+  abbrev es : List PageCacheEntry
+  es = entries (m .slots)
+
+  seats-held : length (H .seats) ≡ n
+  seats-held = sym (H .headed .held) ∙ held
+
+  pub key-hit : {key at : ℕ} → Hit (names Key (entries (m .slots))) (m .by-key) n key at → KeyAt (c .row) key (getD (m .by-key) at 0)
+  key-hit {key} {at} hit =
+      let s : ℕ = getD (m .by-key) at 0 in
+      let named : getD es s blank .key .0 ≡ key = sym (name-at Key es s) ∙ hit .same in
+      record {
+        entry = seen s (getD es s blank);
+        stands = record {
+          found = subst (λ (k : ℕ). find k (c .row) ≡ some (seen s (getD es s blank))) named (seat-found H s (hit-seat (H .keys) seats-held hit));
+          slot = refl;
+        };
+      }
+
+  pub key-miss : {key at : ℕ} → Miss (names Key (entries (m .slots))) (m .by-key) n key at → find key (c .row) ≡ none
+  key-miss {key} miss =
+      none-find key (c .row)
+      (subst (Each (λ x. key ≢ x .page .key)) (sym (H .row))
+      (seat-each (λ x. key ≢ x .page .key) es (H .seats) (λ k h q. miss-absent (H .keys) seats-held miss k h (name-at Key es k ∙ sym q))))
+
+  module _ (key handle : ℕ) where
+    each-fits : ((k : ℕ) → has k (H .seats) ≡ true → Fits key handle (seen k (getD es k blank))) → underOther key handle (c .row) ≡ false
+    each-fits at-seat = each-under key handle (c .row) (rw (H .row) (seat-each (Fits key handle) es (H .seats) at-seat))
+
+    pub handle-miss : {at : ℕ} → Miss (names Handle (entries (m .slots))) (m .by-handle) n handle at → underOther key handle (c .row) ≡ false
+    handle-miss miss = each-fits (λ k h q. absurd (miss-absent (H .handles) seats-held miss k h (name-at Handle es k ∙ q)))
+
+    -- the handle is one entry's alone, so that entry's key tells
+    pub handle-hit : {at found : ℕ} → Hit (names Handle (entries (m .slots))) (m .by-handle) n handle at
+        → found ≡ getD (names Key (entries (m .slots))) (getD (m .by-handle) at 0) 0 → underOther key handle (c .row) ≡ not (eqb found key)
+    handle-hit {at} {found} hit read = go (ℕ-discrete found key)
+      where
+        s : ℕ
+        s = getD (m .by-handle) at 0
+
+        key-at : found ≡ getD es s blank .key .0
+        key-at = read ∙ name-at Key es s
+
+        fits : found ≡ key → (k : ℕ) → has k (H .seats) ≡ true → Fits key handle (seen k (getD es k blank))
+        fits same k h q =
+            let here : s ≡ k = hit-is (H .handles) seats-held hit h (name-at Handle es k ∙ q) in
+            sym (ap (λ (j : ℕ). getD es j blank .key .0) here) ∙ sym key-at ∙ same
+
+        misfits : (b : Bool) → underOther key handle (c .row) ≡ b → found ≢ key → b ≡ true
+        misfits true q other = refl
+        misfits false q other =
+            let all : Each (Fits key handle) (rowOf es (H .seats)) = subst (Each (Fits key handle)) (H .row) (under-each key handle (c .row) q) in
+            let seat : has s (H .seats) ≡ true = hit-seat (H .handles) seats-held hit in
+            absurd (other (key-at ∙ each-seat (Fits key handle) es (H .seats) all s seat (sym (name-at Handle es s) ∙ hit .same)))
+
+        go : Dec (found ≡ key) → underOther key handle (c .row) ≡ not (eqb found key)
+        go (yes same) = rw (eq-eqb found key same) (each-fits (fits same))
+        go (no other) = rw (ne-eqb found key other) (misfits (underOther key handle (c .row)) refl other)

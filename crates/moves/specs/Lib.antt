@@ -1,0 +1,4 @@
+pub mod Counting
+pub mod Heads
+pub mod Relist
+pub mod Moves

@@ -1,0 +1,55 @@
+-- The columns of names: a name is read off its slot's entry, so a store to a slot changes that slot's name alone, and links
+-- change none. Assumes nothing.
+use mathlib.Core.Path.{_≡_, refl, sym}
+use mathlib.Core.List.{List}
+use Prim.Native.Nat.{ℕ}
+use lib.ListN.{length, getD, set, length-map}
+use Rattle.page.specs.declared.entry.PageCacheEntry.{PageCacheEntry}
+use Rattle.pool.specs.Slots.{blank}
+use Rattle.pool.specs.Links.{linkedFirst, linkedAfter, unlinked}
+use Rattle.pool.proofs.Columns.{map-set, kept, column-at, Linkless, column-first, column-after, column-unlinked}
+use Rattle.order.specs.declared.search.By.{By}
+use Rattle.order.specs.declared.search.By.the-variants.{Key, Handle}
+use Rattle.order.specs.Names.{nameOf, names}
+
+-- ── reading ──────────────────────────────────────────────────────────────────
+pub names-length : (by : By) (es : List PageCacheEntry) → length (names by es) ≡ length es
+names-length by es = length-map es (nameOf by)
+
+-- a slot that is not there has the name of a blank one
+name-blank : (by : By) → nameOf by blank ≡ 0
+unfolding blank
+name-blank Key = refl
+name-blank Handle = refl
+
+pub name-at : (by : By) (es : List PageCacheEntry) (s : ℕ) → getD (names by es) s 0 ≡ nameOf by (getD es s blank)
+name-at by es s = rw (← (name-blank by)) (column-at (nameOf by) es s)
+
+-- the name of an entry that was loaded
+pub name-read : (es : List PageCacheEntry) (s : ℕ) {by by′ : By} {e : PageCacheEntry} → by ≡ by′ → e ≡ getD es s blank
+    → nameOf by′ e ≡ getD (names by es) s 0
+name-read es s {by} {by′} q l = rw (q, l) (sym (name-at by′ es s))
+
+-- ── writing ──────────────────────────────────────────────────────────────────
+module _ (by : By) (es : List PageCacheEntry) (s : ℕ) (e : PageCacheEntry) where
+  pub names-set : names by (set es s e) ≡ set (names by es) s (nameOf by e)
+  names-set = map-set (nameOf by) es s e
+
+  -- an entry of the same name is stored
+  pub names-kept : nameOf by e ≡ nameOf by (getD es s blank) → names by (set es s e) ≡ names by es
+  names-kept q = kept (nameOf by) es s q
+
+-- ── linking ──────────────────────────────────────────────────────────────────
+pub names-linkless : (by : By) → Linkless (nameOf by)
+names-linkless Key = record { blind = λ e next prev. refl }
+names-linkless Handle = record { blind = λ e next prev. refl }
+
+module _ (by : By) (es : List PageCacheEntry) where
+  pub names-first : (s : ℕ) (e : PageCacheEntry) → names by (linkedFirst es s e) ≡ set (names by es) s (nameOf by e)
+  names-first s e = column-first es s e (nameOf by) (names-linkless by)
+
+  pub names-after : (hand s : ℕ) (e : PageCacheEntry) → names by (linkedAfter es hand s e) ≡ set (names by es) s (nameOf by e)
+  names-after hand s e = column-after es hand s e (nameOf by) (names-linkless by)
+
+  pub names-unlinked : (s : ℕ) → names by (unlinked es s) ≡ set (names by es) s (nameOf by blank)
+  names-unlinked s = column-unlinked es s (nameOf by) (names-linkless by)

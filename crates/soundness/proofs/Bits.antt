@@ -1,0 +1,94 @@
+-- A mark is a digit of its word, 0 or 1. The marks beyond the last slot are the upper digits of the last word, and they
+-- are all zero exactly if nothing is left of the word once it is shifted down past the others. Assumes nothing.
+use mathlib.Core.Path.{_≡_, refl, sym, ap, _∙_}
+use mathlib.Core.Bool.{Bool, true, false, true≢false}
+use mathlib.Core.Logic.{_⊎_, inl, inr, ⊎-elim}
+use mathlib.Core.List.{List}
+use Prim.Native.Nat.{ℕ, zero, suc, _+_, _*_, _-_, _/_, _%_, _^_, _≤_, _<_, zero-le, suc-le-suc}
+use native.Mathlib.Nat.{zero-div, le-of-suc-le-suc}
+use native.Mathlib.Decide.{ℕ-discrete, decLt}
+use native.Mathlib.Omega.{arith}
+use lib.Dec.{eqb}
+use lib.Pow.{pow-pos, shr-lt, shr-shr}
+use lib.ListN.{length, getD, List·getD-eq-default}
+use Rattle.page.specs.declared.entry.PageCacheEntry.{PageCacheEntry}
+use Rattle.pool.specs.Marks.{bitAt}
+use Rattle.pool.specs.Slots.{blank}
+use Rattle.pool.specs.Tells.{Tells}
+use Rattle.pool.proofs.Digits.{digit, digit-of-none, digits-once}
+use Rattle.pool.proofs.Tells.{tells-yes, tells-eq, tells-as}
+use Rattle.soundness.specs.Checks.{MarksFit, Beyond, Filled, Proper}
+
+-- ── one mark ─────────────────────────────────────────────────────────────────
+remainder : (x : ℕ) → x % 2 ≤ 1
+remainder x = omega arith
+
+pub bit-limit : (m : List ℕ) (k : ℕ) → bitAt m k ≤ 1
+bit-limit m k = remainder (getD m (k / 64) 0 / 2 ^ (k % 64))
+
+pub bit-one : (m : List ℕ) (k : ℕ) → (bitAt m k ≡ 0 → ⊥) → bitAt m k ≡ 1
+bit-one m k ne = go (bitAt m k) (bit-limit m k) ne
+  where
+    go : (x : ℕ) → x ≤ 1 → (x ≡ 0 → ⊥) → x ≡ 1
+    go x h ne = omega arith
+
+-- what the answer of `is_free` says of a mark
+module _ {mark : ℕ} {free : Bool} (t : Tells free (mark ≡ 1)) where
+  pub free-marked : free ≡ true → mark ≡ 0 → ⊥
+  free-marked e z = omega (arith, t .right e)
+
+  pub held-unmarked : mark ≤ 1 → free ≡ false → mark ≡ 0
+  held-unmarked h e = let ne : mark ≡ 1 → ⊥ = λ q. true≢false (sym (t .whole q) ∙ e) in omega arith
+
+  -- and so of a slot that is looked at by it
+  module _ {e : PageCacheEntry} {answer : Bool} where
+    pub proper-free : free ≡ true → Tells answer (e ≡ blank) → Tells answer (Proper mark e)
+    proper-free f b = tells-as b (λ p. record { held = λ z. absurd (free-marked f z); free = λ _. p }) (λ p. p .free (t .right f))
+
+    pub proper-held : mark ≤ 1 → free ≡ false → {read : PageCacheEntry} → read ≡ e → Tells answer (Filled read) → Tells answer (Proper mark e)
+    proper-held h f r b = tells-as (rw r at b)
+        (λ p. record { held = λ _. p; free = λ o. absurd (true≢false (sym (t .whole o) ∙ f)) }) (λ p. p .held (held-unmarked h f))
+
+pub bit-past : (m : List ℕ) (k : ℕ) → length m ≤ k / 64 → bitAt m k ≡ 0
+bit-past m k h = ap (λ (x : ℕ). digit x (k % 64)) (List·getD-eq-default m 0 h) ∙ digit-of-none (k % 64)
+
+-- ── beyond the last slot ─────────────────────────────────────────────────────
+-- a digit above b is one of what is left after a shift by b
+pub digit-shifted : (x b i : ℕ) → digit (x / 2 ^ b) i ≡ digit x (b + i)
+digit-shifted x b i = ap (λ (y : ℕ). y % 2) (shr-shr x b i)
+
+module _ {m : List ℕ} {size : ℕ} (fit : MarksFit m size) where
+  -- there is no last word that is used in part
+  pub beyond-none : length m ≤ size / 64 → Tells true (Beyond m size)
+  beyond-none h = tells-yes record { clear = λ k g. bit-past m k (omega arith) }
+
+  abbrev word : ℕ
+  word = getD m (size / 64) 0
+
+  module _ (wide : word < 2 ^ 64) where
+    -- nothing is left of the word
+    clear-beyond : word / 2 ^ (size % 64) ≡ 0 → (k : ℕ) → size ≤ k → bitAt m k ≡ 0
+    clear-beyond e k g = go (ℕ-discrete (k / 64) (size / 64))
+      where
+        go : Dec (k / 64 ≡ size / 64) → bitAt m k ≡ 0
+        go (yes q) =
+            let above : size % 64 + (k % 64 - size % 64) ≡ k % 64 = omega arith in
+            ap (λ (w : ℕ). digit (getD m w 0) (k % 64)) q ∙ ap (digit word) (sym above)
+            ∙ sym (digit-shifted word (size % 64) (k % 64 - size % 64)) ∙ ap (λ (x : ℕ). digit x (k % 64 - size % 64)) e ∙ digit-of-none _
+        go (no ne) = bit-past m k (omega (arith, fit .words))
+
+    beyond-clear : ((k : ℕ) → size ≤ k → bitAt m k ≡ 0) → word / 2 ^ (size % 64) ≡ 0
+    beyond-clear f =
+        let whole : 64 - size % 64 + size % 64 ≡ 64 = omega arith in
+        digits-once (64 - size % 64) (word / 2 ^ (size % 64)) 0
+        (shr-lt (64 - size % 64) (size % 64) (rw whole wide)) (pow-pos (64 - size % 64))
+        (λ i h. digit-shifted word (size % 64) i ∙ here i h ∙ sym (digit-of-none i))
+      where
+        here : (i : ℕ) → i < 64 - size % 64 → digit word (size % 64 + i) ≡ 0
+        here i h =
+            let w : (size + i) / 64 ≡ size / 64 = omega arith in
+            let b : (size + i) % 64 ≡ size % 64 + i = omega arith in
+            (λ t. digit (getD m (sym w t) 0) (sym b t)) ∙ f (size + i) (omega arith)
+
+    pub beyond-tested : Tells (eqb (word / 2 ^ (size % 64)) 0) (Beyond m size)
+    beyond-tested = tells-as (tells-eq (word / 2 ^ (size % 64)) 0) (λ e. record { clear = clear-beyond e }) (λ f. beyond-clear (f .clear))

@@ -1,0 +1,32 @@
+-- Each comparison tells its own part, and too many slots are refused before their lengths are reckoned. Assumes nothing.
+use mathlib.Core.Path.{refl}
+use native.Mathlib.Omega.{arith}
+use borrow.Author.Needs.{needs}
+use Rattle.pool.proofs.Tells.{tells-no, tells-eq, tells-and, tells-as}
+use Rattle.soundness.proofs.Passes.{tells-le}
+use Rattle.soundness.proofs.lengths.lengths_agree.Statement.{statement}
+use Rattle.soundness.proofs.lengths.lengths_agree.Tie as tie
+
+cast-if1 : tie.Need-cast-if1
+cast-if1 c = search needs
+
+returns : tie.Need-returns
+returns c = tells-no (λ a. omega (arith, a .most, c .if1 .taken))
+
+mul-result : tie.Need-mul-result
+mul-result c = search needs
+
+add-result : tie.Need-add-result
+add-result c = search needs
+
+returns-2 : tie.Need-returns-2
+returns-2 c = tells-as (tells-and (tells-and (tells-and (tells-le 1 _) (tells-eq _ _)) (tells-eq _ _)) (tells-eq _ _))
+    (λ p. record {
+      lengths = record { slots = p .0 .0 .1; by-key = refl; by-handle = p .0 .1; marks = p .1 };
+      some = p .0 .0 .0;
+      most = c .if1 .left;
+    })
+    (λ a. (((a .some, a .lengths .slots), a .lengths .by-handle), a .lengths .marks))
+
+pub lengths-agree-spec : {M : Type 1} → statement M
+lengths-agree-spec = tie.close (tie.spec cast-if1 returns mul-result add-result returns-2)

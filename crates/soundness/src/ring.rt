@@ -1,0 +1,48 @@
+// The walk round the ring.
+use page::Slot;
+ghost use Rattle.pool.specs.Slots.{entries};
+ghost use Rattle.pool.specs.Tells.{Tells};
+ghost use Rattle.soundness.specs.Checks.{Readable, Walkable, Walked};
+
+// Whether as many slots as are held, none of them free, go round from the hand and back to it no sooner.
+pub fn is_ring(slots: &[u64], marks: &[u64], size: u32, held: u32, hand: Slot) -> bool
+    requires { ⌜ Readable (now slots) (now marks) size ⌝ }
+    ensures { λ r. ⌜ Tells r (Walked (entries (now (slots .entry))) (now (marks .entry)) held (hand .0)) ⌝ }
+{
+    if held == 0 {
+        return hand.0 == 0;
+    }
+    if hand.0 >= size {
+        return false;
+    }
+    goes_round(slots, marks, size, held, hand)
+}
+
+// The same for a ring that has a slot, and a hand that is one. It ends, whatever the links are, since each turn uses up
+// one of the slots that are held.
+fn goes_round(slots: &[u64], marks: &[u64], size: u32, held: u32, hand: Slot) -> bool
+    requires { ⌜ Walkable (now slots) (now marks) size held (hand .0) ⌝ }
+    ensures { λ r. ⌜ Tells r (Walked (entries (now (slots .entry))) (now (marks .entry)) held (hand .0)) ⌝ }
+{
+    let mut left = held;
+    let mut at = hand.0;
+    while left > 0 {
+        if pool::is_free(marks, Slot(at)) {
+            return false;
+        }
+        let next = pool::next(slots, Slot(at)).0;
+        if next >= size {
+            return false;
+        }
+        let back = pool::load(slots, Slot(next)).prev;
+        if back.0 != at {
+            return false;
+        }
+        left -= 1;
+        if next == hand.0 {
+            return left == 0;
+        }
+        at = next;
+    }
+    false
+}

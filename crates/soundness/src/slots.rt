@@ -1,0 +1,49 @@
+// The pass over the slots.
+use page::PageCache;
+use page::PageCacheEntry;
+use page::PageRecord;
+use page::Slot;
+ghost use lib.ListN.{getD};
+ghost use Rattle.pool.specs.Marks.{bitAt};
+ghost use Rattle.pool.specs.Slots.{entries, blank};
+ghost use Rattle.pool.specs.Tells.{Tells};
+ghost use Rattle.soundness.specs.Checks.{Readable, ReadableAt, Filled, Proper, AllProper};
+
+const ALL_FLAGS: u8 = PageRecord::LOADED
+    + PageRecord::LOCKED
+    + PageRecord::DIRTY
+    + PageRecord::SPILLED
+    + PageRecord::WAL_TAG;
+
+// Whether the entry is such as a held slot may have.
+fn is_filled(e: PageCacheEntry) -> bool
+    ensures { λ r. ⌜ Tells r (Filled e) ⌝ }
+{
+    let page = e.page;
+    (e.uses <= PageCache::REF_MAX) & (page.flags <= ALL_FLAGS) & (e.spare == 0)
+}
+
+// Whether slot s holds what its mark says: nothing if it is free, and a good entry if it is held.
+fn is_proper(slots: &[u64], marks: &[u64], s: Slot) -> bool
+    requires { ⌜ ReadableAt (now slots) (now marks) (s .0) ⌝ }
+    ensures { λ r. ⌜ Tells r (Proper (bitAt (now (marks .entry)) (s .0)) (getD (entries (now (slots .entry))) (s .0) blank)) ⌝ }
+{
+    if pool::is_free(marks, s) {
+        return pool::is_blank(slots, s);
+    }
+    is_filled(pool::load(slots, s))
+}
+
+pub fn all_proper(slots: &[u64], marks: &[u64], size: u32) -> bool
+    requires { ⌜ Readable (now slots) (now marks) size ⌝ }
+    ensures { λ r. ⌜ Tells r (AllProper (entries (now (slots .entry))) (now (marks .entry)) size) ⌝ }
+{
+    let mut s: u32 = 0;
+    while s < size {
+        if !is_proper(slots, marks, Slot(s)) {
+            return false;
+        }
+        s += 1;
+    }
+    true
+}
