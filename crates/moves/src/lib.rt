@@ -26,6 +26,8 @@ mod removing;
 pub use changing::replace_at;
 pub use changing::rewrite_at;
 pub use changing::touch_at;
+pub use estimate::count_down;
+pub use estimate::count_up;
 pub use finding::Seat;
 pub use finding::handle_elsewhere;
 pub use finding::seat_of;

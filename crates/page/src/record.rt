@@ -36,6 +36,8 @@ impl PageRecord {
     pub const SPILLED: u8 = 8;
 
     pub const WAL_TAG: u8 = 16;
+    // All of them: a record with any other is bad.
+    pub const ALL_FLAGS: u8 = 31;
 
     pub fn is_loaded(self) -> bool
         ensures { λ r. ⌜ r ≡ loaded self ⌝ }

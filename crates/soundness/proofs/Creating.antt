@@ -1,11 +1,10 @@
 -- Every slot of a new pool is marked as free and every other word is zero, so it holds the cache with nothing in it; and
 -- the three answers of a creation exclude each other, so that there is one outcome. Assumes nothing.
 use mathlib.Core.Path.{_≡_, refl, sym, ap, _∙_, subst}
-use mathlib.Core.Logic.{⊎-elim}
 use mathlib.Core.List.{List, [], _∷_, _++_, append-nil}
 use Prim.Native.Nat.{ℕ, zero, suc, _+_, _*_, _-_, _/_, _%_, _^_, _≤_, _<_}
 use native.Mathlib.Nat.{one-mul, not-suc-le-zero}
-use native.Mathlib.Decide.{ℕ-discrete, decLt}
+use native.Mathlib.Decide.{ℕ-discrete}
 use native.Mathlib.Omega.{arith}
 use lib.Pow.{pow-pos, ones-lt, shr-lt, shl-exact}
 use lib.ListN.{length, getD, set, drop, replicate, length-map, length-append, length-replicate, length-set, getD-replicate, length-drop, List·getD-append, List·getD-eq-default}
@@ -23,7 +22,7 @@ use Rattle.order.specs.Listed.{Listed}
 use Rattle.order.proofs.Ascending.{index-places}
 use Rattle.model.specs.Cache.{fresh}
 use Rattle.memory.specs.Memory.{Memory}
-use Rattle.memory.specs.Holds.{Lengths, Marked, Holds}
+use Rattle.memory.specs.Holds.{Holds}
 use Rattle.soundness.specs.Checks.{Agreeing, MarksFit}
 use Rattle.soundness.specs.Creation.{lastMarks, freeMarks, freshMemory, CreatedWell, Creates}
 use Rattle.soundness.specs.declared.creation.Created.{Created}

@@ -5,12 +5,12 @@ use mathlib.Core.Path.{_≡_, refl, sym, ap, _∙_, subst}
 use mathlib.Core.Bool.{Bool, true, false, cond, true≢false}
 use mathlib.Core.Logic.{⊎-elim}
 use mathlib.Core.List.{List, [], _∷_}
-use Prim.Native.Nat.{ℕ, zero, suc, _+_, _*_, _-_, _/_, _≤_, _<_}
+use Prim.Native.Nat.{ℕ, zero, suc, _+_, _≤_, _<_}
 use native.Mathlib.Omega.{arith}
 use lib.Dec.{eqb}
 use lib.ListN.{length, getD, take, length-map, List·getD-eq-default}
 use lib.Seq.{getD-take, length-take-le}
-use borrow.Author.Tests.{eq-eqb, ne-eqb, eqb-true, eqb-false}
+use borrow.Author.Tests.{eq-eqb, eqb-true, eqb-false}
 use Rattle.page.specs.declared.cache.PageCache.{PageCache}
 use Rattle.page.specs.declared.entry.PageCacheEntry.{PageCacheEntry}
 use Rattle.pool.specs.Marks.{bitAt}
@@ -33,7 +33,9 @@ use Rattle.model.specs.Cache.{Cache}
 use Rattle.model.specs.Row.{Each}
 use Rattle.memory.specs.Memory.{Memory}
 use Rattle.memory.specs.Holds.{Lengths, Seated, rowOf, Marked, Fine, Holds, Sound}
-use Rattle.soundness.specs.Checks.{Agreeing, InRange, MarksFit, countBelow, unmarked, Counted, Readable, Taken, Walked, Orderable, Lists, Filled, AllProper, Checked}
+use Rattle.memory.proofs.Rows.{each-seat, seat-each}
+use Rattle.memory.proofs.Standing.{holds-size}
+use Rattle.soundness.specs.Checks.{Agreeing, InRange, MarksFit, unmarked, Counted, Readable, Taken, Walked, Orderable, Lists, Filled, AllProper, Checked}
 use Rattle.soundness.proofs.Passes.{lt-or-le}
 use Rattle.soundness.proofs.Bits.{bit-one}
 use Rattle.soundness.proofs.Counting.{all-has, has-all, covers, as-many}
@@ -55,19 +57,6 @@ all-below size (a ∷ l) g = (g .0, all-below size l (g .1))
 has-below : (size : ℕ) (l : List ℕ) → All (λ k. k < size) l → (k : ℕ) → size ≤ k → has k l ≡ false
 has-below size [] g k h = refl
 has-below size (a ∷ l) g k h = has-skip k a l (λ e. omega (arith, g .0)) ∙ has-below size l (g .1) k h
-
-row-fine : (es : List PageCacheEntry) (l : List ℕ) → All (λ k. Filled (getD es k blank)) l → Each Fine (rowOf es l)
-row-fine es [] g = tt
-row-fine es (a ∷ l) g = (record { flags = g .0 .flags; uses = g .0 .uses }, row-fine es l (g .1))
-
--- what the limits say of a row, at the slot of each entry
-pub record FineAt (es : List PageCacheEntry) (k : ℕ) : Type 0 where
-  pub flags : getD es k blank .page .flags ≤ 31
-  pub uses : getD es k blank .uses ≤ 3
-
-fine-row : (es : List PageCacheEntry) (l : List ℕ) → Each Fine (rowOf es l) → All (FineAt es) l
-fine-row es [] g = tt
-fine-row es (a ∷ l) g = (record { flags = g .0 .flags; uses = g .0 .uses }, fine-row es l (g .1))
 
 blank-next : blank .next .0 ≡ 0
 unfolding blank
@@ -202,7 +191,7 @@ module _ (m : Memory) (head : PageCache) (ch : Checked m head) where
       some = ch .agreeing .some;
       most = ch .agreeing .most;
       capacity = ch .range .capacity;
-      fine = row-fine es seats (has-all (λ k. Filled (getD es k blank)) seats filled);
+      fine = seat-each Fine es seats (λ k h. record { flags = filled k h .flags; uses = filled k h .uses });
     };
   }
 
@@ -214,11 +203,8 @@ module _ {m : Memory} {head : PageCache} {c : Cache} (hd : Holds m head c) where
   abbrev sound-es : List PageCacheEntry
   sound-es = entries (m .slots)
 
-  sound-long : length sound-es ≡ c .size
-  sound-long = entries-whole (c .size) (m .slots) (hd .lengths .slots)
-
   seat-below : All (λ k. k < c .size) (hd .seats)
-  seat-below = subst (λ (s : ℕ). All (λ k. k < s) (hd .seats)) (length-map sound-es (λ (e : PageCacheEntry). e .next .0) ∙ sound-long) (all-below _ (hd .seats) (hd .seated .ring .inside))
+  seat-below = subst (λ (s : ℕ). All (λ k. k < s) (hd .seats)) (length-map sound-es (λ (e : PageCacheEntry). e .next .0) ∙ holds-size hd) (all-below _ (hd .seats) (hd .seated .ring .inside))
 
   seat-taken : (k : ℕ) → has k (hd .seats) ≡ true → Taken (m .marks) (c .size) k
   seat-taken k e =
@@ -254,7 +240,7 @@ module _ {m : Memory} {head : PageCache} {c : Cache} (hd : Holds m head c) where
   sound-slots : AllProper sound-es (m .marks) (c .size)
   sound-slots k l = record {
     held = λ z.
-        let t = all-has (FineAt sound-es) (hd .seats) (fine-row sound-es (hd .seats) (subst (Each Fine) (hd .row) (hd .limits .fine))) k (unmarked-seat k l z) in
+        let t = each-seat Fine sound-es (hd .seats) (subst (Each Fine) (hd .row) (hd .limits .fine)) k (unmarked-seat k l z) in
         record { uses = t .uses; flags = t .flags; spare = hd .seated .spare k };
     free = λ z. hd .seated .vacant k (out-has k (hd .seats) (marked-none k l z));
   }
@@ -282,7 +268,7 @@ module _ {m : Memory} {head : PageCache} {c : Cache} (hd : Holds m head c) where
     first = hd .headed .hand;
     round = hd .seated .ring .round;
     apart = hd .seated .ring .apart;
-    taken = has-all _ (hd .seats) (λ k e. subst (λ (s : ℕ). Taken (m .marks) s k) (sym sound-long) (seat-taken k e));
+    taken = has-all _ (hd .seats) (λ k e. subst (λ (s : ℕ). Taken (m .marks) s k) (sym (holds-size hd)) (seat-taken k e));
   }
 
   holds-checked : Checked m head

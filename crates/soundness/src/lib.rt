@@ -7,7 +7,7 @@
 //     index.rt      an index: held slots by strictly ascending names, and then zeros
 //     slots.rt      the slots: held ones have a good entry, free ones are all zero
 //     sound.rt      is_sound: all of these
-//     creation.rt  create: every lent word set, whatever stood there
+//     creation.rt   create: every lent word set, whatever stood there
 //
 // `is_sound` is one pass over each part, and refuses at the first thing that is wrong. No pass compares two parts in
 // full. A walk that comes back to the hand only at its end meets no slot twice, and strictly ascending names are of

@@ -9,18 +9,12 @@ ghost use Rattle.pool.specs.Slots.{entries, blank};
 ghost use Rattle.pool.specs.Tells.{Tells};
 ghost use Rattle.soundness.specs.Checks.{Readable, ReadableAt, Filled, Proper, AllProper};
 
-const ALL_FLAGS: u8 = PageRecord::LOADED
-    + PageRecord::LOCKED
-    + PageRecord::DIRTY
-    + PageRecord::SPILLED
-    + PageRecord::WAL_TAG;
-
 // Whether the entry is such as a held slot may have.
 fn is_filled(e: PageCacheEntry) -> bool
     ensures { λ r. ⌜ Tells r (Filled e) ⌝ }
 {
     let page = e.page;
-    (e.uses <= PageCache::REF_MAX) & (page.flags <= ALL_FLAGS) & (e.spare == 0)
+    (e.uses <= PageCache::REF_MAX) & (page.flags <= PageRecord::ALL_FLAGS) & (e.spare == 0)
 }
 
 // Whether slot s holds what its mark says: nothing if it is free, and a good entry if it is held.

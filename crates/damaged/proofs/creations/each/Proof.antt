@@ -1,0 +1,45 @@
+-- Each turn takes one of as many lines as the text has bytes at the most. Assumes nothing.
+use borrow.Author.Needs.{needs}
+use Rattle.damaged.proofs.creations.each.Statement.{statement}
+use Rattle.damaged.proofs.creations.each.Tie as tie
+
+abbrev Inv-loop : tie.InvT-loop
+Inv-loop text at₀ left₀ at left = Unit
+
+abbrev μ-loop : tie.MeasureT-loop
+μ-loop text at₀ left₀ at left = left
+
+loop-holds : tie.Need-loop-holds Inv-loop μ-loop
+loop-holds c = search needs
+
+one-requires : tie.Need-one-requires Inv-loop μ-loop
+one-requires c κs = search needs
+
+returns : tie.Need-returns Inv-loop μ-loop
+returns c = search needs
+
+sub-left : tie.Need-sub-left Inv-loop μ-loop
+sub-left c = search needs
+
+loop-less : tie.Need-loop-less Inv-loop μ-loop
+loop-less c = search needs
+
+loop-again : tie.Need-loop-again Inv-loop μ-loop
+loop-again c = search needs
+
+returns-2 : tie.Need-returns-2 Inv-loop μ-loop
+returns-2 c = search needs
+
+pub each-spec : {M : Type 1} → statement M
+each-spec =
+    tie.close
+    (tie.spec
+    Inv-loop
+    μ-loop
+    loop-holds
+    one-requires
+    returns
+    sub-left
+    loop-less
+    loop-again
+    returns-2)
