@@ -1,0 +1,127 @@
+-- What the sweep's loop has done after some looks, and that one look more keeps it: the seats and the row are turned by one
+-- together, so that the looks that are left come to what all of them come to. Assumes nothing.
+use mathlib.Core.Path.{_≡_, refl, sym, ap, _∙_, subst}
+use mathlib.Core.Bool.{true, false}
+use mathlib.Core.List.{List, [], _∷_, _++_}
+use Prim.Native.Nat.{ℕ, suc, _+_, _*_, _-_, _<_, _≤_}
+use native.Mathlib.Omega.{arith}
+use lib.ListN.{length, length-append}
+use Rattle.page.specs.Entry.{refMax}
+use Rattle.page.specs.declared.entry.PageCacheEntry.{PageCacheEntry}
+use Rattle.page.specs.declared.names.Slot.{Slot}
+use Rattle.pool.specs.Ring.{has}
+use Rattle.pool.specs.Slots.{entries}
+use Rattle.pool.proofs.Columns.{next-at}
+use Rattle.pool.proofs.Rings.{TurnedTo, turn-to}
+use Rattle.pool.proofs.Rows.{has-turns}
+use Rattle.model.specs.Cache.{pageMayGo}
+use Rattle.model.specs.Row.{Entry, Row, Each}
+use Rattle.model.specs.Sweep.{Swept, pass, lower, looks}
+use Rattle.model.proofs.Looks.{pass-none, loop-goes, loop-stays, loop-full}
+use Rattle.model.proofs.Lowering.{lower-le}
+use Rattle.model.proofs.Rows.{each-append}
+use Rattle.memory.specs.Holds.{Fine, Seated, rowOf}
+use Rattle.eviction.specs.Sweep.{seenAt, TakenAt, PassedAt, Sweepable, Turned, SweptFrom, SweptAs}
+use Rattle.eviction.proofs.Seats.{seated-turn, seat-inside, names-used, seated-used, row-passed}
+
+-- a page that is passed stays good
+fine-lower : (e : Entry) → Fine e → Fine (lower pageMayGo 1 e)
+unfolding lower
+fine-lower e f = record { flags = f .flags; uses = omega (arith, f .uses, lower-le pageMayGo 1 e) }
+
+-- ── after some looks ─────────────────────────────────────────────────────────
+-- the ring begins at slot `at`, and the looks that are left of 4 * held come to what all of them come to
+pub record Midway (es : List PageCacheEntry) (seats : List ℕ) (held : ℕ) (es′ : List PageCacheEntry) (at passed : ℕ) : Type 0 where
+  pub turned : Turned es seats es′ at
+  pub left : (k : ℕ) → passed + k ≡ suc refMax * held
+      → pass passed (looks pageMayGo k (rowOf es′ (at ∷ turned .rest))) ≡ looks pageMayGo (suc refMax * held) (rowOf es seats)
+
+-- before the first
+midway-start : {es : List PageCacheEntry} {hand : ℕ} {rest : List ℕ} (held : ℕ) → Seated es (hand ∷ rest)
+    → Midway es (hand ∷ rest) held es hand 0
+midway-start held g = record {
+  turned = record { rest = _; seated = g; size = refl; same = λ k. refl; named = λ by. refl; fine = λ f. f };
+  left = λ k q. let all : k ≡ suc refMax * held = omega arith in rw (all, pass-none);
+}
+
+module _ {es : List PageCacheEntry} {seats : List ℕ} {held : ℕ} {es′ : List PageCacheEntry} {at passed : ℕ}
+    (m : Midway es seats held es′ at passed) where
+  abbrev rest : List ℕ
+  rest = m .turned .rest
+
+  -- the page at `at` is passed
+  midway-passed : {es″ : List PageCacheEntry} {next : Slot} → PassedAt es′ at es″ next → Midway es seats held es″ (next .0) (passed + 1)
+  midway-passed {es″} {next} p =
+      let e : Entry = lower pageMayGo 1 (seenAt es′ at) in
+      let g : Seated es′ (at ∷ rest) = m .turned .seated in
+      let t : TurnedTo _ _ at rest = turn-to rest (g .ring) in
+      let parts : rest ++ at ∷ [] ≡ next .0 ∷ t .rest = t .parts ∙ ap {B = List ℕ} (λ n. n ∷ t .rest) (next-at es′ at ∙ sym (p .next)) in
+      let row : rowOf es″ (next .0 ∷ t .rest) ≡ rowOf es′ rest ++ e ∷ [] =
+      ap {B = Row} (rowOf es″) (sym parts) ∙ ap {B = Row} (λ l. rowOf l (rest ++ at ∷ [])) (p .loses) ∙ row-passed es′ at rest g in
+      record {
+        turned = record {
+          rest = t .rest;
+          seated = subst (Seated es″) parts (rw (p .loses) (seated-turn (seated-used es′ at (e .uses) g)));
+          size = omega (arith, ap length parts, length-append rest (at ∷ []), m .turned .size);
+          same = λ k. ap (has k) (sym parts) ∙ has-turns k rest (at ∷ []) ∙ m .turned .same k;
+          named = λ by. rw (p .loses) (names-used es′ at (e .uses) by ∙ m .turned .named by);
+          fine = λ f.
+              let f′ = m .turned .fine f in
+              subst (Each Fine) (sym row) (each-append Fine (rowOf es′ rest) (e ∷ []) (f′ .1) (fine-lower (seenAt es′ at) (f′ .0), tt));
+        };
+        left = λ k q.
+            ap {B = Swept} (λ r. pass (passed + 1) (looks pageMayGo k r)) row
+            ∙ sym (loop-stays pageMayGo passed k (seenAt es′ at) (rowOf es′ rest) (p .stays)) ∙ m .left (suc k) (omega arith);
+      }
+
+  -- the page at `at` is taken
+  midway-taken : {es″ : List PageCacheEntry} → passed < suc refMax * held → TakenAt es′ at es″
+      → SweptFrom es seats held es″ (record { found = true; at = record { 0 = at }; passed = passed })
+  midway-taken {es″} more t =
+      let k : ℕ = suc refMax * held - suc passed in
+      rw (t .same) record {
+        turned = m .turned;
+        came = sym (m .left (suc k) (omega arith)) ∙ loop-goes pageMayGo passed k (seenAt es′ at) (rowOf es′ rest) (t .goes);
+      }
+
+  -- none is taken by all the looks
+  midway-full : suc refMax * held ≤ passed → passed ≤ suc refMax * held
+      → SweptFrom es seats held es′ (record { found = false; at = record { 0 = at }; passed = passed })
+  midway-full ge le = record {
+    turned = m .turned;
+    came = sym (m .left 0 (omega arith)) ∙ loop-full pageMayGo passed (rowOf es′ (at ∷ rest));
+  }
+
+-- ── the loop ─────────────────────────────────────────────────────────────────
+-- there are as many words as before, at most 4 * held looks were made, and the ring is midway, whichever seats it had
+pub record Going (slots : List ℕ) (hand : Slot) (held : ℕ) (slots′ : List ℕ) (at : Slot) (passed : ℕ) : Type 0 where
+  pub long : length slots′ ≡ length slots
+  pub within : passed ≤ suc refMax * held
+  pub midway : (rest : List ℕ) → Seated (entries slots) (hand .0 ∷ rest)
+      → Midway (entries slots) (hand .0 ∷ rest) held (entries slots′) (at .0) passed
+
+pub going-start : {slots : List ℕ} {hand : Slot} {held : ℕ} → Going slots hand held slots hand 0
+going-start = record { long = refl; within = omega arith; midway = λ rest g. midway-start _ g }
+
+module _ {slots : List ℕ} {hand : Slot} {held : ℕ} {slots′ : List ℕ} {at : Slot} {passed : ℕ}
+    (g : Going slots hand held slots′ at passed) where
+  -- the slot to look at is there
+  pub going-inside : Sweepable (entries slots) (hand .0) → at .0 < length (entries slots′)
+  going-inside p = seat-inside (g .midway (p .rest) (p .seated) .turned .seated)
+
+  -- a look passes the page, or takes it, or none is left
+  pub going-passed : {slots″ : List ℕ} {next : Slot} → passed < suc refMax * held → length slots″ ≡ length slots′
+      → PassedAt (entries slots′) (at .0) (entries slots″) next → Going slots hand held slots″ next (passed + 1)
+  going-passed more long p = record {
+    long = long ∙ g .long;
+    within = omega arith;
+    midway = λ rest s. midway-passed (g .midway rest s) p;
+  }
+
+  pub going-taken : {es″ : List PageCacheEntry} → passed < suc refMax * held → TakenAt (entries slots′) (at .0) es″
+      → SweptAs (entries slots) (hand .0) held es″ (record { found = true; at = at; passed = passed })
+  going-taken more t rest s = midway-taken (g .midway rest s) more t
+
+  pub going-full : suc refMax * held ≤ passed
+      → SweptAs (entries slots) (hand .0) held (entries slots′) (record { found = false; at = at; passed = passed })
+  going-full all rest s = midway-full (g .midway rest s) all (g .within)

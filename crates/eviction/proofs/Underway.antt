@@ -1,0 +1,139 @@
+-- The loop of evictions: each page that goes leaves its handle at the next place of the list, and there are as many places
+-- left as pages. A sweep passes at most 4 * maxSlots pages and leaves one less, so that the sum of the passed ones is bounded.
+-- Assumes nothing.
+use mathlib.Core.Path.{_≡_, refl, ap, _∙_}
+use mathlib.Core.Bool.{Bool, true, false}
+use mathlib.Core.List.{List, [], _∷_, _++_}
+use Prim.Native.Nat.{ℕ, suc, _+_, _*_, _≤_, _<_}
+use native.Mathlib.Omega.{arith}
+use lib.ListN.{length, set}
+use Rattle.page.specs.Cache.{maxSlots}
+use Rattle.page.specs.Entry.{refMax}
+use Rattle.page.specs.declared.cache.PageCache.{PageCache}
+use Rattle.page.specs.declared.names.PageHandle.{PageHandle}
+use Rattle.model.specs.Cache.{Cache}
+use Rattle.model.specs.Rooms.{Room, evictTo}
+use Rattle.memory.specs.Memory.{Memory}
+use Rattle.memory.specs.Holds.{Holds}
+use Rattle.memory.proofs.OnceKept.{holds-held, holds-fits}
+use Rattle.eviction.specs.Evict.{Occupied, Takes, Refuses}
+use Rattle.eviction.specs.Room.{Ready, Made}
+use Rattle.eviction.proofs.Step.{took-is-the-sweep, full-is-the-sweep, took-passed-bound}
+use Rattle.eviction.proofs.Rooms.{Toward, Reached, toward-start, toward-enough, toward-held, toward-took, toward-full}
+use Rattle.eviction.proofs.Written.{Written, written-none, written-long, written-more}
+
+-- no part of the memory has become longer or shorter
+pub record SameLengths (m m′ : Memory) : Type 0 where
+  pub slots : length (m′ .slots) ≡ length (m .slots)
+  pub by-key : length (m′ .by-key) ≡ length (m .by-key)
+  pub by-handle : length (m′ .by-handle) ≡ length (m .by-handle)
+  pub marks : length (m′ .marks) ≡ length (m .marks)
+
+same-then : {m m′ m″ : Memory} → SameLengths m m′ → SameLengths m′ m″ → SameLengths m m″
+same-then a b = record {
+  slots = b .slots ∙ a .slots;
+  by-key = b .by-key ∙ a .by-key;
+  by-handle = b .by-handle ∙ a .by-handle;
+  marks = b .marks ∙ a .marks;
+}
+
+-- the loop began with memory m, its head and a list of `from` handles, and has come to m′, head′ and a list of `count`
+pub record Underway (m : Memory) (head : PageCache) (list : List ℕ) (from target : ℕ) (m′ : Memory) (head′ : PageCache) (list′ : List ℕ)
+    (passed count : ℕ) : Type 0 where
+  pub ready : Ready m head list from
+  pub same : SameLengths m m′
+  -- the handles that went, and a place for each page that is left
+  pub gone : List ℕ
+  pub written : Written list from gone list′ count
+  pub places : count + head′ .held ≤ length list
+  -- each page that went stands for at most 4 * maxSlots passed
+  pub small : passed + suc refMax * maxSlots * head′ .held ≤ suc refMax * maxSlots * maxSlots
+  -- and the evictions go on to what all of them come to, whichever cache the memory held at first
+  pub toward : (c : Cache) → Holds m head c → Toward (evictTo target c) target m′ head′ passed gone
+
+-- no more pages are held than a pool may have slots
+held-most : {m : Memory} {head : PageCache} {c : Cache} → Holds m head c → head .held ≤ maxSlots
+held-most H = omega (arith, holds-held H, holds-fits H, H .limits .most)
+
+pub underway-start : {m : Memory} {head : PageCache} {list : List ℕ} {from : ℕ} (target : ℕ) → Ready m head list from
+    → Underway m head list from target m head list 0 from
+underway-start target ready = record {
+  ready = ready;
+  same = record { slots = refl; by-key = refl; by-handle = refl; marks = refl };
+  gone = [];
+  written = written-none _ _;
+  places = ready .places;
+  small = omega (arith, held-most (ready .sound .holds));
+  toward = λ c H. toward-start H;
+}
+
+module _ {m : Memory} {head : PageCache} {list : List ℕ} {from target : ℕ} {m′ : Memory} {head′ : PageCache} {list′ : List ℕ} {passed count : ℕ}
+    (u : Underway m head list from target m′ head′ list′ passed count) where
+  -- for the cache that the memory is known to hold
+  abbrev known : Toward (evictTo target (u .ready .sound .cache)) target m′ head′ passed (u .gone)
+  known = u .toward (u .ready .sound .cache) (u .ready .sound .holds)
+
+  pub underway-long : length list′ ≡ length list
+  underway-long = written-long (u .written) (omega (arith, u .places))
+
+  reached-made : {room : Room} {m″ : Memory} {is-full : Bool} {n : ℕ} → Reached room m″ head′ is-full n (u .gone)
+      → Made room list from m″ list′ (record { full = is-full; passed = n; listed = count; head = head′ })
+  reached-made {room} r =
+      let counted : count ≡ from + length (room .gone) = u .written .counted ∙ ap (λ (l : List ℕ). from + length l) (r .gone) in
+      record {
+        full = r .full;
+        passed = r .passed;
+        holds = r .holds;
+        listed = counted;
+        handles = rw (← counted, ← r .gone) (u .written .handles);
+      }
+
+  pub underway-done : head′ .held ≤ target → (c : Cache) → Holds m head c
+      → Made (evictTo target c) list from m′ list′ (record { full = false; passed = passed; listed = count; head = head′ })
+  underway-done few c H = reached-made (toward-enough (u .toward c H) few)
+
+  module _ (more : target < head′ .held) where
+    pub underway-occupied : Occupied m′ head′
+    underway-occupied = record { sound = record { cache = _; holds = known .holds }; some-held = omega arith }
+
+    pub underway-place : count < length list′
+    underway-place = omega (arith, u .places, underway-long)
+
+    -- a page goes
+    module _ {m″ : Memory} {handle : PageHandle} {n : ℕ} {head″ : PageCache} (took : (c : Cache) → Holds m′ head′ c → Takes c m″ handle n head″) where
+      pub underway-held : head″ .held + 1 ≡ head′ .held
+      underway-held = toward-held known more (took-is-the-sweep (known .holds) (took (known .now) (known .holds)))
+
+      underway-bound : n ≤ suc refMax * maxSlots
+      underway-bound =
+          let H = known .holds in
+          omega (arith, took-passed-bound H (took (known .now) H), holds-held H, held-most H)
+
+      pub underway-sum : passed + n ≤ suc refMax * maxSlots * maxSlots
+      underway-sum = omega (arith, u .small, underway-bound)
+
+      pub underway-took : SameLengths m′ m″ → Underway m head list from target m″ head″ (set list′ count (handle .0)) (passed + n) (count + 1)
+      underway-took same = record {
+        ready = u .ready;
+        same = same-then (u .same) same;
+        gone = u .gone ++ handle .0 ∷ [];
+        written = written-more (u .written) (handle .0) (omega (arith, u .places));
+        places = omega (arith, u .places, underway-held);
+        small = omega (arith, u .small, underway-bound, underway-held);
+        toward = λ c H.
+            let t = u .toward c H in
+            toward-took t more (took-is-the-sweep (t .holds) (took (t .now) (t .holds)));
+      }
+
+    -- none may go
+    module _ {m″ : Memory} {n : ℕ} (full : (c : Cache) → Holds m′ head′ c → Refuses c m″ n head′) where
+      pub underway-full-sum : passed + n ≤ suc refMax * maxSlots * maxSlots
+      underway-full-sum =
+          let H = known .holds in
+          omega (arith, u .small, full (known .now) H .passed, holds-held H, held-most H)
+
+      pub underway-full : (c : Cache) → Holds m head c
+          → Made (evictTo target c) list from m″ list′ (record { full = true; passed = passed + n; listed = count; head = head′ })
+      underway-full c H =
+          let t = u .toward c H in
+          reached-made (toward-full t more (full-is-the-sweep (t .holds) (full (t .now) (t .holds))))

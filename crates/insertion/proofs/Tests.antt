@@ -1,0 +1,71 @@
+-- The tests before the rules are the model's, in the model's order: so the call answers a refusal where the model does, and
+-- otherwise acts. Assumes nothing.
+use mathlib.Core.Path.{_≡_, refl, sym, _∙_}
+use mathlib.Core.Bool.{Bool, true, false}
+use mathlib.Core.List.{List}
+use Prim.Native.Nat.{ℕ, _≤_, _<_, _^_}
+use lib.ListN.{length}
+use borrow.Author.Tests.{lt-ltb, le-ltb}
+use Rattle.page.specs.declared.cache.PageCache.{PageCache}
+use Rattle.pool.specs.Marks.{Wide}
+use Rattle.model.specs.Cache.{Cache}
+use Rattle.model.specs.Call.{Call, insert}
+use Rattle.model.specs.Rules.{onInsert}
+use Rattle.model.specs.Step.{act, step}
+use Rattle.model.specs.Tests.{underOther}
+use Rattle.memory.specs.Memory.{Memory}
+use Rattle.memory.specs.Holds.{Holds, Sound}
+use Rattle.memory.proofs.OnceKept.{holds-kept}
+use Rattle.answer.specs.Answer.{plainly, Comes}
+use Rattle.answer.specs.declared.answer.Answer.the-variants.{BadRecord, ShortList, HandleElsewhere}
+use Rattle.answer.specs.declared.answered.Answered.{Answered}
+use Rattle.answer.proofs.Steps.{step-acts, step-bad-record, step-short-list, step-elsewhere, list-short, list-long, comes-as, plain-comes}
+use Rattle.moves.specs.Moves.{TestsHandle}
+use Rattle.insertion.specs.declared.form.Request.{Request}
+use Rattle.insertion.specs.Form.{insertionOf}
+use Rattle.insertion.specs.Insert.{Free, Insertable, Inserts}
+
+-- the call that is asked for
+abbrev asking : Request → List ℕ → Call
+asking asked list = insert (insertionOf (asked .form)) (asked .key .0) (asked .handle .0) (asked .page) (length list)
+
+module _ (asked : Request) {list : List ℕ} {m : Memory} {head : PageCache} {c : Cache} (H : Holds m head c) where
+  -- ── a test that fails ──────────────────────────────────────────────────────
+  pub bad-record : 31 < asked .page .flags → Comes (step (asking asked list) c) list m list (plainly BadRecord head)
+  bad-record bad = comes-as (step-bad-record (asking asked list) refl (lt-ltb 31 (asked .page .flags) bad)) (plain-comes BadRecord H list)
+
+  module _ (good : asked .page .flags ≤ 31) where
+    pub short-list : length list < head .held → Comes (step (asking asked list) c) list m list (plainly ShortList head)
+    short-list short = comes-as (step-short-list (asking asked list) refl (le-ltb 31 (asked .page .flags) good) (list-short H short)) (plain-comes ShortList H list)
+
+    module _ (long : head .held ≤ length list) where
+      pub elsewhere : underOther (asked .key .0) (asked .handle .0) (c .row) ≡ true → Comes (step (asking asked list) c) list m list (plainly HandleElsewhere head)
+      elsewhere there =
+          comes-as (step-elsewhere (asking asked list) refl (le-ltb 31 (asked .page .flags) good) (list-long H long) there) (plain-comes HandleElsewhere H list)
+
+      -- ── none fails ─────────────────────────────────────────────────────────
+      acts : Free asked c → {m′ : Memory} {list′ : List ℕ} {r : Answered} → Comes (onInsert (asked .key .0) (asked .handle .0) (asked .page) (insertionOf (asked .form)) c) list m′ list′ r
+          → Comes (step (asking asked list) c) list m′ list′ r
+      unfolding act
+      acts free comes =
+          comes-as (step-acts (asking asked list) (record { capacity = refl; state = le-ltb 31 (asked .page .flags) good; places = list-long H long; naming = free })) comes
+
+-- the words of the slots are of 64 bits, and the estimate of 32: so the cache is within its limits
+module _ {m : Memory} {head : PageCache} {list : List ℕ} {asked : Request} {b : Bool} (good : asked .page .flags ≤ 31)
+    (long : head .held ≤ length list) (told : TestsHandle (m .by-handle) (m .slots) (head .held) (asked .key .0) (asked .handle .0) b) (not-elsewhere : b ≡ false)
+    (wide : Wide (m .slots)) (small : head .estimate < 2 ^ 32) where
+  pub call-insertable : Sound m head → Insertable m head list asked
+  call-insertable s = record {
+    cache = s .cache;
+    holds = s .holds;
+    kept = holds-kept wide (s .holds) small;
+    free = sym (told _ _ _ _ (s .holds) refl) ∙ not-elsewhere;
+    flags = good;
+    long = long;
+  }
+
+  pub call-inserts : {m′ : Memory} {list′ : List ℕ} {r : Answered} → Inserts m head list asked m′ list′ r
+      → (c : Cache) → Holds m head c → Comes (step (asking asked list) c) list m′ list′ r
+  call-inserts inserts c H =
+      let free : Free asked c = sym (told _ _ _ c H refl) ∙ not-elsewhere in
+      acts asked H good long free (inserts .comes c H (holds-kept wide H small) free)

@@ -1,0 +1,118 @@
+// The three insertions: the tests that come before the rules, in their order, and then the rules.
+use crate::form::Insertion;
+use crate::form::Request;
+use crate::inserting::insert_by_key;
+use answer::Answer;
+use answer::Answered;
+use page::PageCache;
+use page::PageCacheKey;
+use page::PageHandle;
+use page::PageRecord;
+ghost use lib.ListN.{length};
+ghost use Rattle.model.specs.Cache.{Cache};
+ghost use Rattle.model.specs.Call.{insert, plain, forced, upsert};
+ghost use Rattle.model.specs.Step.{step};
+ghost use Rattle.memory.specs.Memory.{memory, memories};
+ghost use Rattle.memory.specs.Holds.{Holds, Sound};
+ghost use Rattle.answer.specs.Answer.{Comes};
+ghost use Rattle.insertion.specs.Form.{insertionOf};
+
+// Inserts a page, if its key is absent and there is room or room can be made.
+pub fn insert(
+    slots: &mut [u64],
+    by_key: &mut [u32],
+    by_handle: &mut [u32],
+    marks: &mut [u64],
+    list: &mut [u32],
+    head: PageCache,
+    key: PageCacheKey,
+    handle: PageHandle,
+    page: PageRecord,
+) -> Answered
+    requires { ⌜ Sound (memory slots «by_key» «by_handle» marks) head ⌝ }
+    ensures { λ r. let m = memories slots «by_key» «by_handle» marks in ⌜ ((c : Cache) → Holds (m .entry) head c → Comes (step (insert plain (key .0) (handle .0) page (length (now (list .entry)))) c) (now (list .entry)) (m .exit) (now (list .exit)) r) ⌝ }
+{
+    let asked = Request {
+        key,
+        handle,
+        page,
+        form: Insertion::Plain,
+    };
+    insert_page(slots, by_key, by_handle, marks, list, head, asked)
+}
+
+// Inserts or replaces a page, passing the capacity if no room can be made. Savepoint rollback restores pages so: each has to
+// come back, even when every page that is held is dirty.
+pub fn force_upsert_page(
+    slots: &mut [u64],
+    by_key: &mut [u32],
+    by_handle: &mut [u32],
+    marks: &mut [u64],
+    list: &mut [u32],
+    head: PageCache,
+    key: PageCacheKey,
+    handle: PageHandle,
+    page: PageRecord,
+) -> Answered
+    requires { ⌜ Sound (memory slots «by_key» «by_handle» marks) head ⌝ }
+    ensures { λ r. let m = memories slots «by_key» «by_handle» marks in ⌜ ((c : Cache) → Holds (m .entry) head c → Comes (step (insert upsert (key .0) (handle .0) page (length (now (list .entry)))) c) (now (list .entry)) (m .exit) (now (list .exit)) r) ⌝ }
+{
+    let asked = Request {
+        key,
+        handle,
+        page,
+        form: Insertion::Upsert,
+    };
+    insert_page(slots, by_key, by_handle, marks, list, head, asked)
+}
+
+// Inserts a page, passing the capacity if no room can be made: to refuse it would free no memory, since the page is there
+// already. Later insertions bring the cache back under its capacity.
+pub fn force_insert_page(
+    slots: &mut [u64],
+    by_key: &mut [u32],
+    by_handle: &mut [u32],
+    marks: &mut [u64],
+    list: &mut [u32],
+    head: PageCache,
+    key: PageCacheKey,
+    handle: PageHandle,
+    page: PageRecord,
+) -> Answered
+    requires { ⌜ Sound (memory slots «by_key» «by_handle» marks) head ⌝ }
+    ensures { λ r. let m = memories slots «by_key» «by_handle» marks in ⌜ ((c : Cache) → Holds (m .entry) head c → Comes (step (insert forced (key .0) (handle .0) page (length (now (list .entry)))) c) (now (list .entry)) (m .exit) (now (list .exit)) r) ⌝ }
+{
+    let asked = Request {
+        key,
+        handle,
+        page,
+        form: Insertion::Forced,
+    };
+    insert_page(slots, by_key, by_handle, marks, list, head, asked)
+}
+
+// What the three have in common.
+fn insert_page(
+    slots: &mut [u64],
+    by_key: &mut [u32],
+    by_handle: &mut [u32],
+    marks: &mut [u64],
+    list: &mut [u32],
+    head: PageCache,
+    asked: Request,
+) -> Answered
+    requires { ⌜ Sound (memory slots «by_key» «by_handle» marks) head ⌝ }
+    ensures { λ r. let m = memories slots «by_key» «by_handle» marks in ⌜ ((c : Cache) → Holds (m .entry) head c → Comes (step (insert (insertionOf (asked .form)) (asked .key .0) (asked .handle .0) (asked .page) (length (now (list .entry)))) c) (now (list .entry)) (m .exit) (now (list .exit)) r) ⌝ }
+{
+    let flags = asked.page.flags;
+    if PageRecord::ALL_FLAGS < flags {
+        return Answered::plain(Answer::BadRecord, head);
+    }
+    if list.len() < head.held as usize {
+        return Answered::plain(Answer::ShortList, head);
+    }
+    if moves::handle_elsewhere(by_handle, slots, head.held, asked.key, asked.handle) {
+        return Answered::plain(Answer::HandleElsewhere, head);
+    }
+    insert_by_key(slots, by_key, by_handle, marks, list, head, asked)
+}

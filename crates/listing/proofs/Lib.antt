@@ -1,0 +1,4 @@
+pub mod Stores
+pub mod Sweeping
+pub mod Filling
+pub mod Outcomes

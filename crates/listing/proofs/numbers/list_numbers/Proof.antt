@@ -1,0 +1,20 @@
+-- As many pages are listed as the tests allow: none, if the listing is refused. Assumes nothing.
+use borrow.Author.Needs.{needs}
+use Rattle.listing.proofs.Outcomes.{numbers-fit, admitted, comes}
+use Rattle.listing.proofs.numbers.list_numbers.Statement.{statement}
+use Rattle.listing.proofs.numbers.list_numbers.Tie as tie
+
+admit-requires : tie.Need-admit-requires
+admit-requires c κs = search needs
+
+list-pool-requires : tie.Need-list-pool-requires
+list-pool-requires c κs = admitted (numbers-fit (c .before .before .before .before .before .before .before .args .list .now)) (c .before .admit .ensures)
+
+same-length : tie.Need-same-length
+same-length c = search needs
+
+returns : tie.Need-returns
+returns c = comes (numbers-fit (c .before .before .before .before .before .before .before .before .before .before .args .list .now)) (c .before .before .before .before .admit .ensures) (c .before .before .list-pool .ensures)
+
+pub list-numbers-spec : {M : Type 1} → statement M
+list-numbers-spec = tie.close (tie.spec admit-requires list-pool-requires same-length returns)

@@ -1,0 +1,55 @@
+-- What comes of a listing of any memory (01, "Answer codes" 0, 1 and 3). Assumes nothing.
+use mathlib.Core.Path.{_≡_}
+use mathlib.Core.List.{List}
+use Prim.Native.Nat.{ℕ, _≤_, _<_}
+use lib.ListN.{length}
+use Rattle.page.specs.declared.cache.PageCache.{PageCache}
+use Rattle.model.specs.Cache.{Cache}
+use Rattle.memory.specs.Memory.{Memory}
+use Rattle.memory.specs.Holds.{Holds, Sound}
+use Rattle.listing.specs.declared.admission.Admission.{Admission}
+use Rattle.listing.specs.declared.admission.Listing.{Listing}
+use Rattle.listing.specs.declared.admission.Listing.the-variants.{Done, NotSound, ShortList}
+use Rattle.listing.specs.Listing.{Form, Filled}
+
+-- 01's answer codes
+abbrev pub codeOf : Listing → ℕ
+codeOf (Done n) = 0
+codeOf NotSound = 1
+codeOf ShortList = 3
+
+-- the number of pages listed
+abbrev pub valueOf : Listing → ℕ
+valueOf (Done n) = n
+valueOf NotSound = 0
+valueOf ShortList = 0
+
+-- 3: the memory is sound, and the room is less than what is needed
+pub record TooShort (m : Memory) (head : PageCache) (needed space : ℕ) : Type 0 where
+  pub sound : Sound m head
+  pub short : space < needed
+
+-- 0: the memory is sound, there is room for what is needed, and all held pages are counted
+pub record AllListed (m : Memory) (head : PageCache) (needed space n : ℕ) : Type 0 where
+  pub sound : Sound m head
+  pub room : needed ≤ space
+  pub count : n ≡ head .held
+
+-- the answer is the one that is due
+abbrev pub Verdict : Memory → PageCache → (needed space : ℕ) → Listing → Type 0
+Verdict m head needed space NotSound = Sound m head → ⊥
+Verdict m head needed space ShortList = TooShort m head needed space
+Verdict m head needed space (Done n) = AllListed m head needed space n
+
+-- the answer that is due with space for so many pages, and as many pages to list as it says
+pub record Admits (m : Memory) (head : PageCache) (space : ℕ) (a : Admission) : Type 0 where
+  pub verdict : Verdict m head (head .held) space (a .answer)
+  pub count : a .count ≡ valueOf (a .answer)
+
+-- what came of a call: the list was `before` and is `after`. The memory is lent to be read, and stays as it is
+pub record Comes {A : Type 0} (F : Form A) (m : Memory) (head : PageCache) (before after : List A) (answer : Listing) : Type 0 where
+  pub verdict : Verdict m head (F .places (head .held)) (length before) answer
+  -- a refusal alters nothing
+  pub refused : (codeOf answer ≡ 0 → ⊥) → after ≡ before
+  -- the row of the cache that the memory holds is listed
+  pub done : codeOf answer ≡ 0 → (c : Cache) → Holds m head c → Filled F (c .row) before after

@@ -1,0 +1,3 @@
+pub mod Deleting
+pub mod Calls
+pub mod Heads

@@ -1,0 +1,152 @@
+-- The search finds the page or none; a page that is found is stale, and goes by rule 8, or it is touched. Assumes nothing.
+use mathlib.Core.Path.{refl, sym, _∙_}
+use Prim.Native.Nat.{_≤_}
+use lib.ListN.{length}
+use denote.Ref.{now}
+use borrow.Author.Needs.{needs}
+use Rattle.model.specs.Cache.{Cache}
+use Rattle.memory.specs.Memory.{memory}
+use Rattle.memory.specs.Holds.{Holds}
+use Rattle.memory.proofs.Standing.{holds-by-key}
+use Rattle.answer.proofs.Steps.{comes-told}
+use Rattle.moves.specs.Moves.{KeyAt}
+use Rattle.moves.proofs.Removal.{slot-inside}
+use Rattle.lookups.proofs.Deleting.{can-delete}
+use Rattle.lookups.proofs.Calls.{lookup-short, lookup-absent, lookup-stale, lookup-hit}
+use Rattle.lookups.proofs.lookup.get.Statement.{statement}
+use Rattle.lookups.proofs.lookup.get.Tie as tie
+
+-- from the search back to the start
+abbrev start : tie.After-s → tie.Start
+start c = c .before .before .before .before .before .before .before .before .before .before .before .before
+
+-- what the search found
+found : (c : tie.After-s) (w : Cache) → Holds (memory (start c .args .slots) (start c .args .by-key) (start c .args .by-handle) (start c .args .marks)) (start c .args .head) w
+    → KeyAt (w .row) (start c .args .key .0) (c .s .given .0 .0 .0)
+found c w H = rw (c .s .given .1) at (c .before .before .seat-of .ensures _ _ _ w H refl)
+
+long : (c : tie.After-s) → start c .args .head .held ≤ length (now (start c .args .list))
+long c = c .before .before .before .before .before .if1 .left
+
+cast-if1 : tie.Need-cast-if1
+cast-if1 c = search needs
+
+plain-requires : tie.Need-plain-requires
+plain-requires c κs = search needs
+
+returns : tie.Need-returns
+returns c = λ w H. comes-told (c .plain .ensures) (lookup-short H _ (c .before .if1 .taken))
+
+seat-of-requires : tie.Need-seat-of-requires
+seat-of-requires c κs = holds-by-key (c .before .before .before .before .before .before .before .before .before .pre .holds)
+
+enum-known-s : tie.Need-enum-known-s
+enum-known-s c = search needs
+
+enum-told : tie.Need-enum-told
+enum-told c = search needs
+
+plain-requires-2 : tie.Need-plain-requires-2
+plain-requires-2 c κs = search needs
+
+same-length : tie.Need-same-length
+same-length c = search needs
+
+same-length-2 : tie.Need-same-length-2
+same-length-2 c = search needs
+
+returns-2 : tie.Need-returns-2
+returns-2 c = λ w H.
+    comes-told (c .plain2 .ensures)
+    (lookup-absent H _ (c .before .before .before .before .before .before .if1 .left) (rw (c .before .enum-told .given .1) at (c .before .before .before .seat-of .ensures _ _ _ w H refl)))
+
+load-requires : tie.Need-load-requires
+load-requires c κs =
+    let seat = c .before .before in
+    let H = start seat .pre .holds in
+    slot-inside H (found seat _ H .stands)
+
+is-stale-requires : tie.Need-is-stale-requires
+is-stale-requires c κs = search needs
+
+delete-at-requires : tie.Need-delete-at-requires
+delete-at-requires c κs =
+    let seat = c .before .before .before .before .before .before .before .before .before .before in
+    let H = start seat .pre .holds in
+    can-delete H (found seat _ H) (long seat)
+
+same-length-3 : tie.Need-same-length-3
+same-length-3 c = search needs
+
+same-length-4 : tie.Need-same-length-4
+same-length-4 c = search needs
+
+same-length-5 : tie.Need-same-length-5
+same-length-5 c = search needs
+
+same-length-6 : tie.Need-same-length-6
+same-length-6 c = search needs
+
+same-length-7 : tie.Need-same-length-7
+same-length-7 c = search needs
+
+returns-3 : tie.Need-returns-3
+returns-3 c = λ w H.
+    let deleted = c .before .before .before .before .before .before .before .before .before .before in
+    let test = deleted .before .before .before .before .before .before in
+    let seat = test .before .before .before .before .before in
+    let at = found seat w H .stands in
+    lookup-stale H _ (long seat) at (test .before .before .load .ensures) (sym (test .before .is-stale .ensures) ∙ test .if2 .taken) (deleted .delete-at .ensures w _ _ H at)
+
+touch-at-requires : tie.Need-touch-at-requires
+touch-at-requires c κs =
+    let seat = c .before .before .before .before .before .before in
+    let H = start seat .pre .holds in
+    slot-inside H (found seat _ H .stands)
+
+plain-requires-3 : tie.Need-plain-requires-3
+plain-requires-3 c κs = search needs
+
+same-length-8 : tie.Need-same-length-8
+same-length-8 c = search needs
+
+same-length-9 : tie.Need-same-length-9
+same-length-9 c = search needs
+
+returns-4 : tie.Need-returns-4
+returns-4 c = λ w H.
+    let touched = c .before .before .before in
+    let test = touched .before .before in
+    let seat = test .before .before .before .before .before in
+    let at = found seat w H .stands in
+    comes-told (c .plain3 .ensures)
+    (lookup-hit H _ (long seat) at (test .before .before .load .ensures) (sym (test .before .is-stale .ensures) ∙ test .if2 .left) (touched .touch-at .ensures _ _ _ _ w _ _ H at))
+
+pub get-spec : {M : Type 1} → statement M
+get-spec =
+    tie.close
+    (tie.spec
+    cast-if1
+    plain-requires
+    returns
+    seat-of-requires
+    enum-known-s
+    enum-told
+    plain-requires-2
+    same-length
+    same-length-2
+    returns-2
+    load-requires
+    is-stale-requires
+    delete-at-requires
+    same-length-3
+    same-length-4
+    same-length-5
+    same-length-6
+    same-length-7
+    returns-3
+    touch-at-requires
+    plain-requires-3
+    same-length-8
+    same-length-9
+    returns-4)

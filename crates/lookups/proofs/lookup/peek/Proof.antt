@@ -1,0 +1,97 @@
+-- The search finds the page or none; the page is touched if asked. Assumes nothing.
+use mathlib.Core.Path.{refl}
+use mathlib.Core.List.{List}
+use Prim.Native.Nat.{ℕ, _<_}
+use lib.ListN.{length}
+use denote.Ref.{now}
+use borrow.Author.Tests.{not-true, not-false}
+use borrow.Author.Needs.{needs}
+use Rattle.pool.specs.Slots.{entries}
+use Rattle.model.specs.Cache.{Cache}
+use Rattle.memory.specs.Holds.{Holds}
+use Rattle.memory.proofs.Standing.{holds-by-key}
+use Rattle.answer.proofs.Steps.{follows-told}
+use Rattle.moves.specs.Moves.{memoryOf, KeyAt}
+use Rattle.moves.proofs.Removal.{slot-inside}
+use Rattle.lookups.proofs.Calls.{peek-absent, peek-seen, peek-touched}
+use Rattle.lookups.proofs.lookup.peek.Statement.{statement}
+use Rattle.lookups.proofs.lookup.peek.Tie as tie
+
+-- from the search back to the start
+abbrev start : tie.After-at → tie.Start
+start c = c .before .before .before .before .before .before
+
+-- what the search found
+found : (c : tie.After-at) (by-handle marks : List ℕ) (w : Cache)
+    → Holds (memoryOf (now (start c .args .slots)) (now (start c .args .by-key)) by-handle marks) (start c .args .head) w
+    → KeyAt (w .row) (start c .args .key .0) (c .at .given .0 .0 .0)
+found c by-handle marks w H = rw (c .at .given .1) at (c .before .before .seat-of .ensures by-handle marks _ w H refl)
+
+-- and where
+inside : (c : tie.After-at) → c .at .given .0 .0 .0 < length (entries (now (start c .args .slots)))
+inside c = let H = start c .pre .sound .holds in slot-inside H (found c _ _ _ H .stands)
+
+seat-of-requires : tie.Need-seat-of-requires
+seat-of-requires c κs = holds-by-key (c .before .before .before .pre .sound .holds)
+
+enum-known-at : tie.Need-enum-known-at
+enum-known-at c = search needs
+
+enum-told : tie.Need-enum-told
+enum-told c = search needs
+
+plain-requires : tie.Need-plain-requires
+plain-requires c κs = search needs
+
+same-length : tie.Need-same-length
+same-length c = search needs
+
+returns : tie.Need-returns
+returns c = λ by-handle marks w H.
+    follows-told (c .plain .ensures) (peek-absent H _ _ (rw (c .before .enum-told .given .1) at (c .before .before .before .seat-of .ensures _ _ _ w H refl)))
+
+load-requires : tie.Need-load-requires
+load-requires c κs = inside (c .before .before)
+
+plain-requires-2 : tie.Need-plain-requires-2
+plain-requires-2 c κs = search needs
+
+same-length-2 : tie.Need-same-length-2
+same-length-2 c = search needs
+
+returns-2 : tie.Need-returns-2
+returns-2 c = λ by-handle marks w H.
+    let loaded = c .before .before in
+    follows-told (c .before .plain2 .ensures)
+    (peek-seen H _ (found (loaded .before .before .before) by-handle marks w H .stands) (loaded .load .ensures) _ (not-true _ (c .if1 .taken)))
+
+touch-at-requires : tie.Need-touch-at-requires
+touch-at-requires c κs = inside (c .before .before .before .before .before .before)
+
+same-length-3 : tie.Need-same-length-3
+same-length-3 c = search needs
+
+returns-3 : tie.Need-returns-3
+returns-3 c = λ by-handle marks w H.
+    let loaded = c .before .before .before .before .before .before in
+    let at = found (loaded .before .before .before) by-handle marks w H .stands in
+    follows-told (c .before .before .before .before .before .plain2 .ensures)
+    (peek-touched H _ at (loaded .load .ensures) _ (not-false _ (c .before .before .before .before .if1 .left)) (c .before .before .touch-at .ensures _ _ _ _ w _ _ H at))
+
+pub peek-spec : {M : Type 1} → statement M
+peek-spec =
+    tie.close
+    (tie.spec
+    seat-of-requires
+    enum-known-at
+    enum-told
+    plain-requires
+    same-length
+    returns
+    load-requires
+    plain-requires-2
+    same-length-2
+    returns-2
+    touch-at-requires
+    same-length-3
+    returns-3)

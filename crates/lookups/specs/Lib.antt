@@ -1,0 +1,3 @@
+pub mod Deletion
+pub mod Parts
+pub mod Notice

@@ -1,0 +1,3 @@
+pub mod Resize
+pub mod Deletions
+pub mod Clear
