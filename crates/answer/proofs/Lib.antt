@@ -1,2 +1,3 @@
 pub mod Once
 pub mod Steps
+pub mod Tested

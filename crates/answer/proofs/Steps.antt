@@ -123,6 +123,10 @@ module _ (a : Answer) {m : Memory} {head : PageCache} {c : Cache} (H : Holds m h
   pub plain-comes : (list : List ℕ) → Comes (answer (codeOf a) (valueOf a) c) list m list (plainly a head)
   plain-comes list = record { follows = plain-follows; wrote = wrote-none list }
 
+-- an outcome that lists nothing leaves the list alone
+pub unlisted-comes : {o : Outcome} {m : Memory} {r : Answered} {list : List ℕ} → Follows o m r → o .listed ≡ [] → Comes o list m list r
+unlisted-comes {list = list} f q = record { follows = f; wrote = rw q (wrote-none list) }
+
 -- one touch more: nobody is told
 module _ {o : Outcome} {m : Memory} {r : Answered} where
   pub touching-follows : Follows o m r → Follows (touching o) m r

@@ -3,8 +3,8 @@ use crate::cells::Cells;
 use crate::cells::at;
 use crate::reading::line;
 use crate::say;
-use soundness::Created;
-use soundness::create;
+use creating::Created;
+use creating::create;
 ghost use Prim.Native.Nat.{_≤_};
 
 fn answered(

@@ -9,11 +9,11 @@ use lib.ListN.{length, length-append}
 use Rattle.page.specs.Entry.{refMax}
 use Rattle.page.specs.declared.entry.PageCacheEntry.{PageCacheEntry}
 use Rattle.page.specs.declared.names.Slot.{Slot}
-use Rattle.pool.specs.Ring.{has}
+use Rattle.ring_links.specs.Ring.{has}
 use Rattle.pool.specs.Slots.{entries}
-use Rattle.pool.proofs.Columns.{next-at}
-use Rattle.pool.proofs.Rings.{TurnedTo, turn-to}
-use Rattle.pool.proofs.Rows.{has-turns}
+use Rattle.ring_links.proofs.Columns.{next-at}
+use Rattle.ring_links.proofs.Rings.{TurnedTo, turn-to}
+use Rattle.ring_links.proofs.Rows.{has-turns}
 use Rattle.model.specs.Cache.{pageMayGo}
 use Rattle.model.specs.Row.{Entry, Row, Each}
 use Rattle.model.specs.Sweep.{Swept, pass, lower, looks}

@@ -8,8 +8,8 @@ use lib.Seq.{getD-set-same}
 use Rattle.page.specs.Entry.{withUses}
 use Rattle.page.specs.declared.entry.PageCacheEntry.{PageCacheEntry}
 use Rattle.pool.specs.Slots.{blank}
-use Rattle.pool.proofs.Columns.{kept}
-use Rattle.pool.proofs.Rings.{turn, out-unsnoc}
+use Rattle.ring_links.proofs.Columns.{kept}
+use Rattle.ring_links.proofs.Rings.{turn, out-unsnoc}
 use Rattle.order.specs.Names.{names}
 use Rattle.order.specs.declared.search.By.{By}
 use Rattle.order.specs.declared.search.By.the-variants.{Key, Handle}

@@ -9,7 +9,7 @@ use Rattle.page.specs.Entry.{refMax}
 use Rattle.page.specs.declared.cache.PageCache.{PageCache}
 use Rattle.page.specs.declared.entry.PageCacheEntry.{PageCacheEntry}
 use Rattle.page.specs.declared.names.Slot.{Slot}
-use Rattle.pool.specs.Ring.{has, firstOf}
+use Rattle.ring_links.specs.Ring.{has, firstOf}
 use Rattle.pool.specs.Slots.{entries}
 use Rattle.order.specs.declared.search.By.the-variants.{Key, Handle}
 use Rattle.order.proofs.Listed.{listed-seats}

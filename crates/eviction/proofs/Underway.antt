@@ -1,7 +1,7 @@
 -- The loop of evictions: each page that goes leaves its handle at the next place of the list, and there are as many places
 -- left as pages. A sweep passes at most 4 * maxSlots pages and leaves one less, so that the sum of the passed ones is bounded.
 -- Assumes nothing.
-use mathlib.Core.Path.{_≡_, refl, ap, _∙_}
+use mathlib.Core.Path.{_≡_, ap, _∙_}
 use mathlib.Core.Bool.{Bool, true, false}
 use mathlib.Core.List.{List, [], _∷_, _++_}
 use Prim.Native.Nat.{ℕ, suc, _+_, _*_, _≤_, _<_}
@@ -15,27 +15,13 @@ use Rattle.model.specs.Cache.{Cache}
 use Rattle.model.specs.Rooms.{Room, evictTo}
 use Rattle.memory.specs.Memory.{Memory}
 use Rattle.memory.specs.Holds.{Holds}
+use Rattle.memory.proofs.Lengths.{SameLengths, same-start, same-then}
 use Rattle.memory.proofs.OnceKept.{holds-held, holds-fits}
 use Rattle.eviction.specs.Evict.{Occupied, Takes, Refuses}
 use Rattle.eviction.specs.Room.{Ready, Made}
 use Rattle.eviction.proofs.Step.{took-is-the-sweep, full-is-the-sweep, took-passed-bound}
 use Rattle.eviction.proofs.Rooms.{Toward, Reached, toward-start, toward-enough, toward-held, toward-took, toward-full}
 use Rattle.eviction.proofs.Written.{Written, written-none, written-long, written-more}
-
--- no part of the memory has become longer or shorter
-pub record SameLengths (m m′ : Memory) : Type 0 where
-  pub slots : length (m′ .slots) ≡ length (m .slots)
-  pub by-key : length (m′ .by-key) ≡ length (m .by-key)
-  pub by-handle : length (m′ .by-handle) ≡ length (m .by-handle)
-  pub marks : length (m′ .marks) ≡ length (m .marks)
-
-same-then : {m m′ m″ : Memory} → SameLengths m m′ → SameLengths m′ m″ → SameLengths m m″
-same-then a b = record {
-  slots = b .slots ∙ a .slots;
-  by-key = b .by-key ∙ a .by-key;
-  by-handle = b .by-handle ∙ a .by-handle;
-  marks = b .marks ∙ a .marks;
-}
 
 -- the loop began with memory m, its head and a list of `from` handles, and has come to m′, head′ and a list of `count`
 pub record Underway (m : Memory) (head : PageCache) (list : List ℕ) (from target : ℕ) (m′ : Memory) (head′ : PageCache) (list′ : List ℕ)
@@ -59,7 +45,7 @@ pub underway-start : {m : Memory} {head : PageCache} {list : List ℕ} {from : �
     → Underway m head list from target m head list 0 from
 underway-start target ready = record {
   ready = ready;
-  same = record { slots = refl; by-key = refl; by-handle = refl; marks = refl };
+  same = same-start;
   gone = [];
   written = written-none _ _;
   places = ready .places;

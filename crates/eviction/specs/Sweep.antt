@@ -8,8 +8,8 @@ use lib.ListN.{length, getD, set}
 use Rattle.page.specs.Entry.{refMax, withUses}
 use Rattle.page.specs.declared.entry.PageCacheEntry.{PageCacheEntry}
 use Rattle.page.specs.declared.names.Slot.{Slot}
-use Rattle.pool.specs.Links.{nextAt}
-use Rattle.pool.specs.Ring.{has}
+use Rattle.ring_links.specs.Links.{nextAt}
+use Rattle.ring_links.specs.Ring.{has}
 use Rattle.pool.specs.Slots.{blank}
 use Rattle.order.specs.Names.{names}
 use Rattle.order.specs.declared.search.By.{By}

@@ -7,7 +7,7 @@ use Prim.Native.Nat.{ℕ, _≤_, _<_, _^_}
 use lib.ListN.{length}
 use borrow.Author.Tests.{lt-ltb, le-ltb}
 use Rattle.page.specs.declared.cache.PageCache.{PageCache}
-use Rattle.pool.specs.Marks.{Wide}
+use Rattle.free_marks.specs.Marks.{Wide}
 use Rattle.model.specs.Cache.{Cache}
 use Rattle.model.specs.Call.{Call, insert}
 use Rattle.model.specs.Rules.{onInsert}
@@ -21,9 +21,10 @@ use Rattle.answer.specs.declared.answer.Answer.the-variants.{BadRecord, ShortLi
 use Rattle.answer.specs.declared.answered.Answered.{Answered}
 use Rattle.answer.proofs.Steps.{step-acts, step-bad-record, step-short-list, step-elsewhere, list-short, list-long, comes-as, plain-comes}
 use Rattle.moves.specs.Moves.{TestsHandle}
-use Rattle.insertion.specs.declared.form.Request.{Request}
-use Rattle.insertion.specs.Form.{insertionOf}
-use Rattle.insertion.specs.Insert.{Free, Insertable, Inserts}
+use Rattle.request.specs.declared.form.Request.{Request}
+use Rattle.request.specs.Form.{insertionOf}
+use Rattle.renewal.specs.Renew.{Free}
+use Rattle.under_key.specs.Insert.{Insertable, Inserts}
 
 -- the call that is asked for
 abbrev asking : Request → List ℕ → Call

@@ -10,7 +10,7 @@ use native.Mathlib.Omega.{arith}
 use lib.ListN.{length, drop, set, length-map, length-append}
 use lib.Seq.{sets, length-sets}
 use Rattle.pool.specs.Slots.{entries}
-use Rattle.pool.specs.Links.{nextAt}
+use Rattle.ring_links.specs.Links.{nextAt}
 use Rattle.model.specs.Row.{Row}
 use Rattle.listing.specs.declared.listed.ListedPage.{ListedPage}
 use Rattle.listing.specs.declared.listed.RingPage.{RingPage}

@@ -7,9 +7,9 @@ use lib.ListN.{length, getD, length-map}
 use Rattle.page.specs.declared.cache.PageCache.{PageCache}
 use Rattle.page.specs.declared.entry.PageCacheEntry.{PageCacheEntry}
 use Rattle.pool.specs.Slots.{blank, entries}
-use Rattle.pool.specs.Ring.{Below, Way, firstOf}
-use Rattle.pool.specs.Links.{RingOf, nexts, prevs, nextAt}
-use Rattle.pool.proofs.Columns.{next-at}
+use Rattle.ring_links.specs.Ring.{Below, Way, firstOf}
+use Rattle.ring_links.specs.Links.{RingOf, nexts, prevs, nextAt}
+use Rattle.ring_links.proofs.Columns.{next-at}
 use Rattle.model.specs.Cache.{Cache, heldIn}
 use Rattle.model.specs.Row.{Row}
 use Rattle.memory.specs.Memory.{Memory}

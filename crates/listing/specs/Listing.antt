@@ -5,7 +5,7 @@ use mathlib.Core.List.{List, [], _∷_, _++_, map, flatMap}
 use Prim.Native.Nat.{ℕ, _*_, _≤_, _<_}
 use lib.ListN.{length, getD, drop}
 use Rattle.page.specs.declared.entry.PageCacheEntry.{PageCacheEntry}
-use Rattle.pool.specs.Links.{nextAt}
+use Rattle.ring_links.specs.Links.{nextAt}
 use Rattle.pool.specs.Slots.{blank, entries}
 use Rattle.model.specs.Row.{Entry, Row}
 use Rattle.memory.specs.Holds.{seen}

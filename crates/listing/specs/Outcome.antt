@@ -7,9 +7,9 @@ use Rattle.page.specs.declared.cache.PageCache.{PageCache}
 use Rattle.model.specs.Cache.{Cache}
 use Rattle.memory.specs.Memory.{Memory}
 use Rattle.memory.specs.Holds.{Holds, Sound}
-use Rattle.listing.specs.declared.admission.Admission.{Admission}
-use Rattle.listing.specs.declared.admission.Listing.{Listing}
-use Rattle.listing.specs.declared.admission.Listing.the-variants.{Done, NotSound, ShortList}
+use Rattle.listing.specs.declared.testing.Admission.{Admission}
+use Rattle.listing.specs.declared.testing.Listing.{Listing}
+use Rattle.listing.specs.declared.testing.Listing.the-variants.{Done, NotSound, ShortList}
 use Rattle.listing.specs.Listing.{Form, Filled}
 
 -- 01's answer codes

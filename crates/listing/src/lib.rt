@@ -6,7 +6,7 @@
 //     in records   a ListedPage for each page
 //
 //     listed.rt      ListedPage; page_at: what stands at a slot, fetched by value
-//     admission.rt   the tests that come first: sound memory, then a list that is long enough
+//     testing.rt     the tests that come first: sound memory, then a list that is long enough
 //     numbers.rt     list_pool, list_numbers
 //     records.rt     list_records, list_pages
 //
@@ -15,14 +15,14 @@
 // their list. No function here changes the memory, and places of the list past the pages keep their values. What is said of
 // the two forms is said once, of a `Form` (specs/Listing.antt), and two outcomes that the contract of `list_numbers` or
 // `list_pages` allows are one (proofs/Outcomes.antt).
-mod admission;
 mod listed;
 mod numbers;
 mod records;
+mod testing;
 
-pub use admission::Listing;
 pub use listed::ListedPage;
 pub use numbers::list_numbers;
 pub use numbers::list_pool;
 pub use records::list_pages;
 pub use records::list_records;
+pub use testing::Listing;

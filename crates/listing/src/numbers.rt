@@ -1,8 +1,8 @@
 // The listing in numbers.
-use crate::admission::Listing;
-use crate::admission::admit;
 use crate::listed::ListedPage;
 use crate::listed::page_at;
+use crate::testing::Listing;
+use crate::testing::admit;
 use page::PageCache;
 use page::Slot;
 ghost use mathlib.Core.Path.{_≡_};

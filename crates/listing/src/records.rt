@@ -1,10 +1,10 @@
 // The listing in records. The borrow checker covers no function that is lent a slice of structs, so the two here are proved
 // by a walk of their code, by hand. They do as little as they can: each page is fetched by value and stored by one assignment,
 // and the tests are made elsewhere.
-use crate::admission::Listing;
-use crate::admission::admit;
 use crate::listed::ListedPage;
 use crate::listed::page_at;
+use crate::testing::Listing;
+use crate::testing::admit;
 use page::PageCache;
 use page::Slot;
 ghost use Rattle.memory.specs.Memory.{memories};

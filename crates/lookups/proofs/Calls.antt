@@ -1,4 +1,4 @@
--- The calls on one page: a call that passes its tests does what its rule says of the entry that the search found, or of none.
+-- Rule 9: a lookup that passes its test does what the rule says of the entry that the search found, or of none.
 -- Assumes nothing.
 use mathlib.Core.Path.{_≡_, refl, sym, ap, _∙_, subst}
 use mathlib.Core.Bool.{Bool, true, false}
@@ -6,25 +6,23 @@ use mathlib.Core.List.{List}
 use mathlib.Core.Option.{Option, none, some}
 use Prim.Native.Nat.{ℕ, _≤_, _<_}
 use lib.ListN.{length, getD}
-use borrow.Author.Tests.{lt-ltb, le-ltb}
 use Rattle.page.specs.Record.{stale}
 use Rattle.page.specs.declared.cache.PageCache.{PageCache}
 use Rattle.page.specs.declared.entry.PageCacheEntry.{PageCacheEntry}
-use Rattle.page.specs.declared.record.PageRecord.{PageRecord}
 use Rattle.pool.specs.Slots.{blank, entries}
-use Rattle.model.specs.Cache.{Cache, touch, rewrite}
-use Rattle.model.specs.Call.{Outcome, lookup, peek, delete, write, answer}
+use Rattle.model.specs.Cache.{Cache, touch}
+use Rattle.model.specs.Call.{Outcome, lookup, peek, answer}
 use Rattle.model.specs.Row.{Entry, find}
-use Rattle.model.specs.Rules.{deleting, deleteFound, hit, lookupFound, peekFound, writeFound}
+use Rattle.model.specs.Rules.{deleting, hit, lookupFound, peekFound}
 use Rattle.model.specs.Step.{act, step}
 use Rattle.memory.specs.Memory.{Memory}
 use Rattle.memory.specs.Holds.{Holds}
 use Rattle.answer.specs.Answer.{plainly, Follows, Comes}
-use Rattle.answer.specs.declared.answer.Answer.the-variants.{Done, BadRecord, ShortList, Absent}
+use Rattle.answer.specs.declared.answer.Answer.the-variants.{Done, ShortList, Absent}
 use Rattle.answer.specs.declared.answered.Answered.{Answered}
-use Rattle.answer.proofs.Steps.{step-acts, step-bad-record, step-short-list, list-short, list-long, follows-as, comes-as, plain-follows, plain-comes, touching-follows, touching-comes}
+use Rattle.answer.proofs.Steps.{step-acts, step-short-list, list-short, list-long, follows-as, comes-as, plain-follows, plain-comes, touching-follows, touching-comes}
 use Rattle.moves.specs.Moves.{StandsAt}
-use Rattle.lookups.proofs.Deleting.{stored-is}
+use Rattle.deletion.proofs.Deleting.{stored-is}
 
 -- ── by what was found ────────────────────────────────────────────────────────
 module _ (key : ℕ) (c : Cache) {found : Option Entry} (is : find key (c .row) ≡ found) where
@@ -34,24 +32,12 @@ module _ (key : ℕ) (c : Cache) {found : Option Entry} (is : find key (c .row) 
       step-acts (peek key asked) (record { capacity = refl; state = refl; places = refl; naming = refl })
       ∙ ap {B = Outcome} (λ (x : Option Entry). peekFound key asked x c) is
 
-  write-found : (page : PageRecord) → page .flags ≤ 31 → step (write key page) c ≡ writeFound key page found c
-  unfolding act
-  write-found page good =
-      step-acts (write key page) (record { capacity = refl; state = le-ltb 31 (page .flags) good; places = refl; naming = refl })
-      ∙ ap {B = Outcome} (λ (x : Option Entry). writeFound key page x c) is
-
   module _ {m : Memory} {head : PageCache} {places : ℕ} (H : Holds m head c) (long : head .held ≤ places) where
     lookup-found : step (lookup key places) c ≡ lookupFound key found c
     unfolding act
     lookup-found =
         step-acts (lookup key places) (record { capacity = refl; state = refl; places = list-long H long; naming = refl })
         ∙ ap {B = Outcome} (λ (x : Option Entry). lookupFound key x c) is
-
-    delete-found : step (delete key places) c ≡ deleteFound found c
-    unfolding act
-    delete-found =
-        step-acts (delete key places) (record { capacity = refl; state = refl; places = list-long H long; naming = refl })
-        ∙ ap {B = Outcome} (λ (x : Option Entry). deleteFound x c) is
 
 -- a page that is stale is deleted, and any other is a hit
 found-stale : (key : ℕ) (e : Entry) (c : Cache) → stale (e .page .state) ≡ true → lookupFound key (some e) c ≡ deleting (e .page) (answer 4 0) c
@@ -61,38 +47,27 @@ found-fresh : (key : ℕ) (e : Entry) (c : Cache) → stale (e .page .state) ≡
 found-fresh key e c is = rw (is, lookupFound)
 
 module _ {m : Memory} {head : PageCache} {c : Cache} (H : Holds m head c) (key : ℕ) where
-  -- ── get and delete ─────────────────────────────────────────────────────────
-  module _ {list : List ℕ} (short : length list < head .held) where
-    pub lookup-short : Comes (step (lookup key (length list)) c) list m list (plainly ShortList head)
-    lookup-short = comes-as (step-short-list (lookup key (length list)) refl refl (list-short H short)) (plain-comes ShortList H list)
-
-    pub delete-short : Comes (step (delete key (length list)) c) list m list (plainly ShortList head)
-    delete-short = comes-as (step-short-list (delete key (length list)) refl refl (list-short H short)) (plain-comes ShortList H list)
+  -- ── get ────────────────────────────────────────────────────────────────────
+  pub lookup-short : {list : List ℕ} → length list < head .held → Comes (step (lookup key (length list)) c) list m list (plainly ShortList head)
+  lookup-short {list} short = comes-as (step-short-list (lookup key (length list)) refl refl (list-short H short)) (plain-comes ShortList H list)
 
   module _ {list : List ℕ} (long : head .held ≤ length list) where
     pub lookup-absent : find key (c .row) ≡ none → Comes (step (lookup key (length list)) c) list m list (plainly Absent head)
     lookup-absent absent = comes-as (lookup-found key c absent H long) (plain-comes Absent H list)
 
-    pub delete-absent : find key (c .row) ≡ none → Comes (step (delete key (length list)) c) list m list (plainly (Done 0) head)
-    delete-absent absent = comes-as (delete-found key c absent H long) (plain-comes (Done 0) H list)
+    module _ {s : ℕ} {e : Entry} (at : StandsAt (c .row) key s e) {m′ : Memory} {stored : PageCacheEntry}
+        (loaded : stored ≡ getD (entries (m .slots)) s blank) where
+      pub lookup-stale : {list′ : List ℕ} {r : Answered} → stale (stored .page) ≡ true → Comes (deleting (e .page) (answer 4 0) c) list m′ list′ r
+          → Comes (step (lookup key (length list)) c) list m′ list′ r
+      lookup-stale is comes =
+          comes-as (lookup-found key c (at .found) H long ∙ found-stale key e c (ap (λ (x : Entry). stale (x .page .state)) (sym (stored-is H at loaded)) ∙ is)) comes
 
-    module _ {s : ℕ} {e : Entry} (at : StandsAt (c .row) key s e) {m′ : Memory} where
-      pub delete-there : {list′ : List ℕ} {r : Answered} → Comes (deleting (e .page) (answer 0 0) c) list m′ list′ r
-          → Comes (step (delete key (length list)) c) list m′ list′ r
-      delete-there comes = comes-as (delete-found key c (at .found) H long) comes
-
-      module _ {stored : PageCacheEntry} (loaded : stored ≡ getD (entries (m .slots)) s blank) where
-        pub lookup-stale : {list′ : List ℕ} {r : Answered} → stale (stored .page) ≡ true → Comes (deleting (e .page) (answer 4 0) c) list m′ list′ r
-            → Comes (step (lookup key (length list)) c) list m′ list′ r
-        lookup-stale is comes =
-            comes-as (lookup-found key c (at .found) H long ∙ found-stale key e c (ap (λ (x : Entry). stale (x .page .state)) (sym (stored-is H at loaded)) ∙ is)) comes
-
-        pub lookup-hit : stale (stored .page) ≡ false → Holds m′ head (touch key c)
-            → Comes (step (lookup key (length list)) c) list m′ list (plainly (Done (stored .handle .0)) head)
-        lookup-hit is touched =
-            comes-as (lookup-found key c (at .found) H long ∙ found-fresh key e c (ap (λ (x : Entry). stale (x .page .state)) (sym (stored-is H at loaded)) ∙ is))
-            (subst (λ (x : Entry). Comes (hit key (x .page) c) list m′ list (plainly (Done (stored .handle .0)) head)) (stored-is H at loaded)
-            (touching-comes (plain-comes (Done (stored .handle .0)) touched list)))
+      pub lookup-hit : stale (stored .page) ≡ false → Holds m′ head (touch key c)
+          → Comes (step (lookup key (length list)) c) list m′ list (plainly (Done (stored .handle .0)) head)
+      lookup-hit is touched =
+          comes-as (lookup-found key c (at .found) H long ∙ found-fresh key e c (ap (λ (x : Entry). stale (x .page .state)) (sym (stored-is H at loaded)) ∙ is))
+          (subst (λ (x : Entry). Comes (hit key (x .page) c) list m′ list (plainly (Done (stored .handle .0)) head)) (stored-is H at loaded)
+          (touching-comes (plain-comes (Done (stored .handle .0)) touched list)))
 
   -- ── peek ───────────────────────────────────────────────────────────────────
   pub peek-absent : (asked : Bool) → find key (c .row) ≡ none → Follows (step (peek key asked) c) m (plainly Absent head)
@@ -111,16 +86,3 @@ module _ {m : Memory} {head : PageCache} {c : Cache} (H : Holds m head c) (key :
         follows-as (ap {B = Outcome} (λ (x : Bool). step (peek key x) c) is ∙ peek-found key c (at .found) true)
         (subst (λ (x : Entry). Follows (hit key (x .page) c) m′ (plainly (Done (stored .handle .0)) head)) (stored-is H at loaded)
         (touching-follows (plain-follows (Done (stored .handle .0)) touched)))
-
-  -- ── write ──────────────────────────────────────────────────────────────────
-  module _ (page : PageRecord) where
-    pub write-bad : 31 < page .flags → Follows (step (write key page) c) m (plainly BadRecord head)
-    write-bad bad = follows-as (step-bad-record (write key page) refl (lt-ltb 31 (page .flags) bad)) (plain-follows BadRecord H)
-
-    module _ (good : page .flags ≤ 31) where
-      pub write-absent : find key (c .row) ≡ none → Follows (step (write key page) c) m (plainly Absent head)
-      write-absent absent = follows-as (write-found key c absent page good) (plain-follows Absent H)
-
-      pub write-there : {s : ℕ} {e : Entry} {m′ : Memory} → StandsAt (c .row) key s e → Holds m′ head (rewrite key page c)
-          → Follows (step (write key page) c) m′ (plainly (Done 0) head)
-      write-there at written = follows-as (write-found key c (at .found) page good) (plain-follows (Done 0) written)

@@ -1,3 +1,1 @@
-pub mod Deleting
-pub mod Calls
-pub mod Heads
+mod Calls

@@ -8,9 +8,9 @@ use lib.ListN.{length, getD, set, length-set, length-map}
 use lib.Seq.{getD-set-same, getD-set-other}
 use Rattle.page.specs.declared.entry.PageCacheEntry.{PageCacheEntry}
 use Rattle.pool.specs.Slots.{blank}
-use Rattle.pool.specs.Ring.{Out}
-use Rattle.pool.specs.Links.{withLinks, linkedFirst, linkedAfter, unlinked}
-use Rattle.pool.proofs.Columns.{Linkless, map-set, column-at, column-first, column-after, column-unlinked}
+use Rattle.ring_links.specs.Ring.{Out}
+use Rattle.ring_links.specs.Links.{withLinks, linkedFirst, linkedAfter, unlinked}
+use Rattle.ring_links.proofs.Columns.{Linkless, map-set, column-at, column-first, column-after, column-unlinked}
 use Rattle.order.specs.Names.{nameOf, names}
 use Rattle.order.specs.declared.search.By.{By}
 use Rattle.order.specs.declared.search.By.the-variants.{Key, Handle}

@@ -9,3 +9,5 @@ pub mod OnceRefused
 pub mod OnceExamples
 pub mod OnceKept
 pub mod Walks
+pub mod Lengths
+pub mod Reheaded

@@ -10,9 +10,9 @@ use lib.Dec.{eqb}
 use lib.ListN.{length, getD, length-map}
 use Rattle.page.specs.Cache.{maxSlots}
 use Rattle.page.specs.declared.entry.PageCacheEntry.{PageCacheEntry}
-use Rattle.pool.specs.Ring.{has, Out}
+use Rattle.ring_links.specs.Ring.{has, Out}
 use Rattle.pool.specs.Slots.{blank}
-use Rattle.pool.specs.Marks.{bitAt, MarkedAs, SomeFree, LowestFree}
+use Rattle.free_marks.specs.Marks.{bitAt, MarkedAs, SomeFree, LowestFree}
 use Rattle.order.proofs.Membership.{has-here, has-skip, has-out, out-has, has-mid}
 use Rattle.model.specs.Cache.{slotTaken, lowestFree}
 use Rattle.model.proofs.KeptSlots.{lowest-bound, lowest-lower, lowest-free}

@@ -11,12 +11,12 @@ use native.Mathlib.Omega.{arith}
 use lib.ListN.{length}
 use Rattle.page.specs.declared.cache.PageCache.{PageCache}
 use Rattle.page.specs.declared.entry.PageCacheEntry.{PageCacheEntry}
-use Rattle.pool.specs.Links.{nexts, prevs}
-use Rattle.pool.specs.Marks.{bitAt, Wide}
+use Rattle.ring_links.specs.Links.{nexts, prevs}
+use Rattle.free_marks.specs.Marks.{bitAt, Wide}
 use Rattle.pool.specs.Slots.{entries}
-use Rattle.pool.proofs.Marking.{marks-once}
+use Rattle.free_marks.proofs.Marking.{marks-once}
 use Rattle.pool.proofs.Packing.{entries-whole, words-once}
-use Rattle.pool.proofs.Rows.{round-only}
+use Rattle.ring_links.proofs.Rows.{round-only}
 use Rattle.order.specs.Listed.{Listed}
 use Rattle.order.specs.Names.{names}
 use Rattle.order.specs.declared.search.By.{By}

@@ -8,11 +8,11 @@ use native.Mathlib.Decide.{ℕ-discrete}
 use lib.ListN.{length, getD}
 use lib.Seq.{ext-getD}
 use Rattle.page.specs.declared.entry.PageCacheEntry.{PageCacheEntry}
-use Rattle.pool.specs.Links.{nextAt, prevAt}
-use Rattle.pool.specs.Ring.{Out}
+use Rattle.ring_links.specs.Links.{nextAt, prevAt}
+use Rattle.ring_links.specs.Ring.{Out}
 use Rattle.pool.specs.Slots.{blank}
-use Rattle.pool.proofs.Columns.{next-at, prev-at}
-use Rattle.pool.proofs.Rows.{next-at-only, prev-at-only}
+use Rattle.ring_links.proofs.Columns.{next-at, prev-at}
+use Rattle.ring_links.proofs.Rows.{next-at-only, prev-at-only}
 use Rattle.model.specs.Row.{Entry, Row}
 use Rattle.memory.specs.Holds.{Seated, seen, rowOf}
 

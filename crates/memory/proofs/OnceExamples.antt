@@ -9,10 +9,10 @@ use native.Mathlib.Omega.{arith}
 use lib.ListN.{getD}
 use Rattle.page.specs.declared.cache.PageCache.{PageCache}
 use Rattle.page.specs.declared.entry.PageCacheEntry.{PageCacheEntry}
-use Rattle.pool.specs.Marks.{bitAt}
-use Rattle.pool.specs.Ring.{has}
+use Rattle.free_marks.specs.Marks.{bitAt}
+use Rattle.ring_links.specs.Ring.{has}
 use Rattle.pool.specs.Slots.{decode, blank, entries}
-use Rattle.pool.proofs.Digits.{digit, digit-of-none, pow-else}
+use Rattle.free_marks.proofs.Digits.{digit, digit-of-none, pow-else}
 use Rattle.model.specs.Cache.{Cache}
 use Rattle.memory.specs.Memory.{Memory}
 use Rattle.memory.specs.Holds.{seen, Holds, Sound}

@@ -9,9 +9,9 @@ use native.Mathlib.Omega.{arith}
 use lib.ListN.{length, getD, length-map}
 use Rattle.page.specs.declared.cache.PageCache.{PageCache}
 use Rattle.page.specs.declared.entry.PageCacheEntry.{PageCacheEntry}
-use Rattle.pool.specs.Marks.{Wide}
-use Rattle.pool.specs.Ring.{has, Out, Below}
-use Rattle.pool.specs.Ring as ring
+use Rattle.free_marks.specs.Marks.{Wide}
+use Rattle.ring_links.specs.Ring.{has, Out, Below}
+use Rattle.ring_links.specs.Ring as ring
 use Rattle.pool.specs.Slots.{decode, blank, entries}
 use Rattle.pool.proofs.Packing.{entries-at, entries-whole}
 use Rattle.order.specs.Listed.{Listed}

@@ -7,8 +7,8 @@ use native.Mathlib.Omega.{arith}
 use lib.ListN.{length, getD}
 use Rattle.page.specs.Cache.{maxSlots}
 use Rattle.page.specs.declared.cache.PageCache.{PageCache}
-use Rattle.pool.specs.Marks.{bitAt}
-use Rattle.pool.proofs.Digits.{digit, digit-of-none}
+use Rattle.free_marks.specs.Marks.{bitAt}
+use Rattle.free_marks.proofs.Digits.{digit, digit-of-none}
 use Rattle.memory.specs.Memory.{Memory}
 use Rattle.memory.specs.Holds.{Lengths, Marked, Sound}
 

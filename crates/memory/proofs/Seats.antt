@@ -9,9 +9,9 @@ use lib.ListN.{length, getD, set}
 use Rattle.page.specs.declared.entry.PageCacheEntry.{PageCacheEntry}
 use Rattle.page.specs.declared.names.Slot.{Slot}
 use Rattle.pool.specs.Slots.{blank}
-use Rattle.pool.specs.Ring.{has, Out}
-use Rattle.pool.specs.Links.{nexts, prevs, RingOf, linkedFirst, linkedAfter, unlinked}
-use Rattle.pool.proofs.Columns.{kept, next-at, prev-at, ring-first, ring-after, ring-unlinked}
+use Rattle.ring_links.specs.Ring.{has, Out}
+use Rattle.ring_links.specs.Links.{nexts, prevs, RingOf, linkedFirst, linkedAfter, unlinked}
+use Rattle.ring_links.proofs.Columns.{kept, next-at, prev-at, ring-first, ring-after, ring-unlinked}
 use Rattle.order.proofs.Membership.{has-out, out-has, has-skip, has-mid}
 use Rattle.memory.specs.Holds.{Seated}
 use Rattle.memory.proofs.Columns.{bare, Written, bare-here, bare-else, written-store, written-first, written-after, written-unlinked}

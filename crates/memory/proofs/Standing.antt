@@ -11,10 +11,10 @@ use lib.ListN.{length, getD, length-map}
 use Rattle.page.specs.declared.cache.PageCache.{PageCache}
 use Rattle.page.specs.declared.entry.PageCacheEntry.{PageCacheEntry}
 use Rattle.pool.specs.Slots.{blank, entries}
-use Rattle.pool.specs.Ring.{has, Out}
-use Rattle.pool.specs.Links.{RingOf}
-use Rattle.pool.proofs.Rings as rings
-use Rattle.pool.proofs.Rows.{Stands as SlotStands, stands as slot-stands}
+use Rattle.ring_links.specs.Ring.{has, Out}
+use Rattle.ring_links.specs.Links.{RingOf}
+use Rattle.ring_links.proofs.Rings as rings
+use Rattle.ring_links.proofs.Rows.{Stands as SlotStands, stands as slot-stands}
 use Rattle.pool.proofs.Packing.{entries-whole}
 use Rattle.order.specs.Names.{names}
 use Rattle.order.specs.Index.{Index}

@@ -14,8 +14,8 @@ use lib.Seq.{take-suc, take-take, drop-cons, getD-take, length-take-le}
 use borrow.Author.Tests.{ltb-true, ltb-false}
 use Rattle.page.specs.declared.cache.PageCache.{PageCache}
 use Rattle.page.specs.declared.entry.PageCacheEntry.{PageCacheEntry}
-use Rattle.pool.specs.Ring.{has, Out, Below}
-use Rattle.pool.specs.Ring as ring
+use Rattle.ring_links.specs.Ring.{has, Out, Below}
+use Rattle.ring_links.specs.Ring as ring
 use Rattle.pool.specs.Slots.{blank, entries}
 use Rattle.order.specs.Index.{Asc, nameAt, insertAt}
 use Rattle.order.specs.Names.{names}

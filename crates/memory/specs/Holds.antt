@@ -8,9 +8,9 @@ use Rattle.page.specs.Cache.{maxSlots}
 use Rattle.page.specs.Entry.{refMax}
 use Rattle.page.specs.declared.cache.PageCache.{PageCache}
 use Rattle.page.specs.declared.entry.PageCacheEntry.{PageCacheEntry}
-use Rattle.pool.specs.Links.{RingOf}
-use Rattle.pool.specs.Marks.{bitAt}
-use Rattle.pool.specs.Ring.{has, Out, firstOf}
+use Rattle.ring_links.specs.Links.{RingOf}
+use Rattle.free_marks.specs.Marks.{bitAt}
+use Rattle.ring_links.specs.Ring.{has, Out, firstOf}
 use Rattle.pool.specs.Slots.{blank, entries}
 use Rattle.order.specs.Listed.{Listed}
 use Rattle.order.specs.Names.{names}

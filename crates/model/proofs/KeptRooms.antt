@@ -146,3 +146,15 @@ unfolding makeRoom
 make-room-spare c k = either (λ (r : Room). r .full ≡ false → heldIn (r .cache) < c .size) (eqb (c .capacity) 0)
     (λ h full. absurd (true≢false full))
     (λ h full. omega (arith, eqb-false (c .capacity) 0 h, k .capacity, evict-makes (c .capacity - 1) c k .room full))
+
+-- ── how many go, of any cache ────────────────────────────────────────────────
+-- so many evictions list no more handles
+sweeping-few : (c : Cache) (v : Option Page) (rest : Room) (n : ℕ) → length (rest .gone) ≤ n → length (sweeping c v rest .gone) ≤ suc n
+sweeping-few c none rest n few = omega arith
+sweeping-few c (some p) rest n few = omega arith
+
+pub evictions-few : (n target : ℕ) (c : Cache) → length (evictions n target c .gone) ≤ n
+unfolding evictions
+evictions-few zero target c = omega arith
+evictions-few (suc n) target c = either (λ (room : Room). length (room .gone) ≤ suc n) (ltb target (heldIn c))
+    (λ _. sweeping-few c (sweepOf c .victim) (evictions n target (evicted c)) n (evictions-few n target (evicted c))) (λ _. omega arith)

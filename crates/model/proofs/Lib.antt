@@ -12,6 +12,7 @@ pub mod Numbers
 pub mod ByKey
 pub mod KeptSlots
 pub mod KeptOrder
+pub mod WalkWithout
 pub mod KeptRows
 pub mod KeptRooms
 pub mod KeptSize

@@ -5,20 +5,18 @@ use mathlib.Core.Bool.{Bool, true, false, not, _&&_, true≢false}
 use mathlib.Core.List.{List, [], _∷_, _++_}
 use mathlib.Core.Logic.{_≢_}
 use mathlib.Core.Option.{none, some}
-use Prim.Native.Nat.{ℕ, _<_}
+use Prim.Native.Nat.{ℕ}
 use native.Mathlib.Decide.{ℕ-discrete}
 use lib.Dec.{eqb}
-use lib.ListN.{length, getD, length-map}
+use lib.ListN.{length, getD}
 use borrow.Author.Tests.{eq-eqb, ne-eqb}
 use Rattle.page.specs.declared.cache.PageCache.{PageCache}
 use Rattle.page.specs.declared.entry.PageCacheEntry.{PageCacheEntry}
 use Rattle.pool.specs.Slots.{blank, entries}
-use Rattle.pool.specs.Ring.{has}
+use Rattle.ring_links.specs.Ring.{has}
 use Rattle.order.specs.Names.{names}
-use Rattle.order.specs.Index.{Index, Hit, Miss}
-use Rattle.order.specs.declared.search.By.{By}
+use Rattle.order.specs.Index.{Hit, Miss}
 use Rattle.order.specs.declared.search.By.the-variants.{Key, Handle}
-use Rattle.order.proofs.Ascending.{ascending}
 use Rattle.order.proofs.Names.{name-at}
 use Rattle.order.proofs.Listed.{hit-seat, hit-is, miss-absent}
 use Rattle.model.specs.Cache.{Cache}
@@ -32,11 +30,6 @@ use Rattle.memory.specs.Holds.{seen, rowOf, Holds}
 use Rattle.memory.proofs.Rows.{each-seat, seat-each}
 use Rattle.memory.proofs.Standing.{each-without, seat-found}
 use Rattle.moves.specs.Moves.{KeyAt, NewNames}
-
--- what stands at a place of an index is a slot
-pub index-slot : (by : By) (es : List PageCacheEntry) {order : List ℕ} {n at : ℕ} → Index (names by es) order n → at < n
-    → getD order at 0 < length es
-index-slot by es i h = simp length-map at (ascending i .inside _ h)
 
 -- ── a handle under another key ───────────────────────────────────────────────
 module _ (key handle : ℕ) where

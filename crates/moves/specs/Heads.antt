@@ -5,7 +5,7 @@ use Prim.Native.Nat.{ℕ, _+_, _-_}
 use lib.Dec.{eqb}
 use Rattle.page.specs.declared.cache.PageCache.{PageCache}
 use Rattle.page.specs.declared.entry.PageCacheEntry.{PageCacheEntry}
-use Rattle.pool.specs.Links.{linkedFirst, linkedAfter}
+use Rattle.ring_links.specs.Links.{linkedFirst, linkedAfter}
 
 -- rule 4. The page at slot s is out: if it was the hand's, the hand moves on to the slot after it; if it was the only one,
 -- the hand is none

@@ -11,7 +11,7 @@ use Rattle.page.specs.declared.cache.PageCache.{PageCache}
 use Rattle.page.specs.declared.entry.PageCacheEntry.{PageCacheEntry}
 use Rattle.page.specs.declared.record.PageRecord.{PageRecord}
 use Rattle.pool.specs.Slots.{entries}
-use Rattle.pool.specs.Links.{Linkable}
+use Rattle.ring_links.specs.Links.{Linkable}
 use Rattle.model.specs.Cache.{Cache, heldIn, newPage, enter, leave, touch, rewrite, replace}
 use Rattle.model.specs.Row.{Entry, Row, Each, find}
 use Rattle.model.specs.Tests.{underOther}

@@ -3,7 +3,7 @@ use mathlib.Core.Path.{_≡_}
 use mathlib.Core.List.{List, _∷_, _++_}
 use Prim.Native.Nat.{ℕ}
 use lib.ListN.{length, getD, set}
-use Rattle.pool.specs.Ring.{Apart}
+use Rattle.ring_links.specs.Ring.{Apart}
 use Rattle.order.specs.Listed.{Listed, Absent}
 
 -- the order lists n seats, of which s has the name `old`, and no other has the name `new`

@@ -11,8 +11,8 @@ use lib.ListN.{length, getD, take, drop, set, length-set, length-append, take-ap
 use lib.Seq.{getD-take, getD-set-same, getD-set-other, length-take-le, drop-drop, split-at}
 use Rattle.page.specs.declared.entry.PageCacheEntry.{PageCacheEntry}
 use Rattle.pool.specs.Slots.{blank}
-use Rattle.pool.specs.Ring.{has, Out, Apart}
-use Rattle.pool.specs.Links.{unlinked}
+use Rattle.ring_links.specs.Ring.{has, Out, Apart}
+use Rattle.ring_links.specs.Links.{unlinked}
 use Rattle.order.specs.declared.search.By.{By}
 use Rattle.order.specs.Names.{nameOf, names}
 use Rattle.order.specs.Index.{All, Index, nameAt, Hit, Miss, Inserted, Removed}

@@ -10,7 +10,7 @@ use native.Mathlib.Decide.{ℕ-discrete}
 use lib.Dec.{eqb}
 use lib.ListN.{length, getD}
 use borrow.Author.Tests.{eq-eqb, ne-eqb}
-use Rattle.pool.specs.Ring.{has, Out, Apart}
+use Rattle.ring_links.specs.Ring.{has, Out, Apart}
 
 -- ── the head of a list ───────────────────────────────────────────────────────
 pub has-here : (k : ℕ) (l : List ℕ) → has k (k ∷ l) ≡ true

@@ -2,15 +2,17 @@
 -- change none. Assumes nothing.
 use mathlib.Core.Path.{_≡_, refl, sym}
 use mathlib.Core.List.{List}
-use Prim.Native.Nat.{ℕ}
+use Prim.Native.Nat.{ℕ, _<_}
 use lib.ListN.{length, getD, set, length-map}
 use Rattle.page.specs.declared.entry.PageCacheEntry.{PageCacheEntry}
 use Rattle.pool.specs.Slots.{blank}
-use Rattle.pool.specs.Links.{linkedFirst, linkedAfter, unlinked}
-use Rattle.pool.proofs.Columns.{map-set, kept, column-at, Linkless, column-first, column-after, column-unlinked}
+use Rattle.ring_links.specs.Links.{linkedFirst, linkedAfter, unlinked}
+use Rattle.ring_links.proofs.Columns.{map-set, kept, column-at, Linkless, column-first, column-after, column-unlinked}
 use Rattle.order.specs.declared.search.By.{By}
 use Rattle.order.specs.declared.search.By.the-variants.{Key, Handle}
+use Rattle.order.specs.Index.{Index}
 use Rattle.order.specs.Names.{nameOf, names}
+use Rattle.order.proofs.Ascending.{ascending}
 
 -- ── reading ──────────────────────────────────────────────────────────────────
 pub names-length : (by : By) (es : List PageCacheEntry) → length (names by es) ≡ length es
@@ -29,6 +31,11 @@ name-at by es s = rw (← (name-blank by)) (column-at (nameOf by) es s)
 pub name-read : (es : List PageCacheEntry) (s : ℕ) {by by′ : By} {e : PageCacheEntry} → by ≡ by′ → e ≡ getD es s blank
     → nameOf by′ e ≡ getD (names by es) s 0
 name-read es s {by} {by′} q l = rw (q, l) (sym (name-at by′ es s))
+
+-- what stands at a place of an index is a slot
+pub index-slot : (by : By) (es : List PageCacheEntry) {order : List ℕ} {n at : ℕ} → Index (names by es) order n → at < n
+    → getD order at 0 < length es
+index-slot by es i h = simp length-map at (ascending i .inside _ h)
 
 -- ── writing ──────────────────────────────────────────────────────────────────
 module _ (by : By) (es : List PageCacheEntry) (s : ℕ) (e : PageCacheEntry) where

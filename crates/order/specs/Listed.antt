@@ -4,7 +4,7 @@ use mathlib.Core.Bool.{true}
 use mathlib.Core.List.{List, _∷_, _++_}
 use Prim.Native.Nat.{ℕ, _<_}
 use lib.ListN.{length, getD, take, set}
-use Rattle.pool.specs.Ring.{has, Out, Apart}
+use Rattle.ring_links.specs.Ring.{has, Out, Apart}
 use Rattle.order.specs.Index.{Index, Miss}
 
 -- the used part of the order is the seats by ascending names, and its other places are zero

@@ -6,22 +6,22 @@
 // An order holds slots and no names: a name is read off the slot's entry. So one code keeps both indexes, and `By` says
 // which name counts. Slot 0 may be held, so a 0 tells nothing of where the used part ends: the caller knows n.
 //
-//     search.rt    By, Spot, name, find: the place of a name, or the gap that it would go into, by halving
-//     shift.rt     insert_at, remove_at: a place is opened or closed, and what stands above it moves by one
-//     listing.rt   enlist, unlist: a slot comes in or goes out. The forms with _at are told the place, and search nothing
+//     search.rt     By, Spot, name, find: the place of a name, or the gap that it would go into, by halving
+//     shift.rt      insert_at, remove_at: a place is opened or closed, and what stands above it moves by one
+//     enlisting.rt  enlist, unlist: a slot comes in or goes out. The forms with _at are told the place, and search nothing
 //
 // Callers may rely on `Listed` (specs/Listed.antt): the used part is exactly the seats of the ring, by strictly ascending
 // names, and all else is 0. `enlist` and `unlist` keep it, and so does every change to a slot that is no seat or that
 // leaves the seat's name alone (proofs/Listed.antt, proofs/Names.antt). What is listed tells the whole order: two orders of
 // one length that list the same seats by the same names are equal (proofs/Once.antt).
-mod listing;
+mod enlisting;
 mod search;
 mod shift;
 
-pub use listing::enlist;
-pub use listing::enlist_at;
-pub use listing::unlist;
-pub use listing::unlist_at;
+pub use enlisting::enlist;
+pub use enlisting::enlist_at;
+pub use enlisting::unlist;
+pub use enlisting::unlist_at;
 pub use search::By;
 pub use search::Spot;
 pub use search::find;

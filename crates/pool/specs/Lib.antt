@@ -1,5 +1,2 @@
 pub mod Tells
 pub mod Slots
-pub mod Ring
-pub mod Links
-pub mod Marks

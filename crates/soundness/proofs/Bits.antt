@@ -10,10 +10,10 @@ use lib.Dec.{eqb}
 use lib.Pow.{pow-pos, shr-lt, shr-shr}
 use lib.ListN.{length, getD, List·getD-eq-default}
 use Rattle.page.specs.declared.entry.PageCacheEntry.{PageCacheEntry}
-use Rattle.pool.specs.Marks.{bitAt}
+use Rattle.free_marks.specs.Marks.{bitAt}
 use Rattle.pool.specs.Slots.{blank}
 use Rattle.pool.specs.Tells.{Tells}
-use Rattle.pool.proofs.Digits.{digit, digit-of-none, digits-once}
+use Rattle.free_marks.proofs.Digits.{digit, digit-of-none, digits-once}
 use Rattle.pool.proofs.Tells.{tells-yes, tells-eq, tells-as}
 use Rattle.soundness.specs.Checks.{MarksFit, Beyond, Filled, Proper}
 

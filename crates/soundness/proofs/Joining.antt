@@ -13,11 +13,11 @@ use lib.Seq.{getD-take, length-take-le}
 use borrow.Author.Tests.{eq-eqb, eqb-true, eqb-false}
 use Rattle.page.specs.declared.cache.PageCache.{PageCache}
 use Rattle.page.specs.declared.entry.PageCacheEntry.{PageCacheEntry}
-use Rattle.pool.specs.Marks.{bitAt}
-use Rattle.pool.specs.Ring.{has, Out, Apart, Below}
+use Rattle.free_marks.specs.Marks.{bitAt}
+use Rattle.ring_links.specs.Ring.{has, Out, Apart, Below}
 use Rattle.pool.specs.Slots.{blank, entries}
 use Rattle.pool.specs.Tells.{Tells}
-use Rattle.pool.proofs.Columns.{next-at, prev-at}
+use Rattle.ring_links.proofs.Columns.{next-at, prev-at}
 use Rattle.pool.proofs.Packing.{entries-whole}
 use Rattle.pool.proofs.Tells.{tells-as}
 use Rattle.order.specs.Index.{All, Index}

@@ -5,4 +5,3 @@ pub mod Walking
 pub mod Ordering
 pub mod Counting
 pub mod Joining
-pub mod Creating

@@ -8,7 +8,7 @@ use native.Mathlib.Nat.{eq-or-lt-of-le, le-of-suc-le-suc}
 use native.Mathlib.Numerals.{add-one}
 use native.Mathlib.Omega.{arith}
 use lib.ListN.{length, getD}
-use Rattle.pool.specs.Marks.{bitAt}
+use Rattle.free_marks.specs.Marks.{bitAt}
 use Rattle.pool.specs.Tells.{Tells}
 use Rattle.pool.proofs.Tells.{tells-yes, tells-no}
 use Rattle.order.specs.Index.{nameAt}

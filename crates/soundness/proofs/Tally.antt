@@ -9,8 +9,8 @@ use lib.Count.{ones, ones-step}
 use lib.Dec.{eqb}
 use lib.ListN.{length, getD}
 use borrow.Author.Tests.{eq-eqb, ne-eqb}
-use Rattle.pool.specs.Marks.{bitAt}
-use Rattle.pool.proofs.Digits.{digit, digit-low, digit-up}
+use Rattle.free_marks.specs.Marks.{bitAt}
+use Rattle.free_marks.proofs.Digits.{digit, digit-low, digit-up}
 use Rattle.soundness.specs.Checks.{Countable, tick, countBelow, unmarked}
 
 half-lt : (d x : ℕ) → x < 2 ^ suc d → x / 2 < 2 ^ d

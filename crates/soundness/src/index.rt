@@ -21,7 +21,7 @@ fn is_ordered(order: &[u32], slots: &[u64], marks: &[u64], by: By, n: usize) -> 
         if s as usize >= size {
             return false;
         }
-        if pool::is_free(marks, Slot(s)) {
+        if free_marks::is_free(marks, Slot(s)) {
             return false;
         }
         let x = name(slots, Slot(s), by) as u64;

@@ -1,5 +1,5 @@
-// Whether the lent memory is sound, and the creation of memory that is. These are the only functions that may be handed
-// any memory at all: they ask nothing of its lengths, its links, its indexes or its head, and never look outside it.
+// Whether the lent memory is sound. These functions may be handed any memory at all: they ask nothing of its lengths, its
+// links, its indexes or its head, and never look outside it.
 //
 //     lengths.rt    the lengths of the four parts, and the numbers of the head
 //     marks.rt      the marks: as many slots are held as the head says, and none is marked beyond the last slot
@@ -7,16 +7,13 @@
 //     index.rt      an index: held slots by strictly ascending names, and then zeros
 //     slots.rt      the slots: held ones have a good entry, free ones are all zero
 //     sound.rt      is_sound: all of these
-//     creation.rt   create: every lent word set, whatever stood there
 //
 // `is_sound` is one pass over each part, and refuses at the first thing that is wrong. No pass compares two parts in
 // full. A walk that comes back to the hand only at its end meets no slot twice, and strictly ascending names are of
 // different slots; so ring and indexes are each as many different slots as are held, all of them unmarked. If there are
 // just as many unmarked slots, each of the three is exactly those.
 //
-// Callers may rely on this: `is_sound` answers yes exactly if the memory is sound (crate memory), and what `create`
-// leaves is known to the last word and holds a cache with nothing in it.
-mod creation;
+// Callers may rely on this: `is_sound` answers yes exactly if the memory is sound (crate memory).
 mod index;
 mod lengths;
 mod marks;
@@ -24,6 +21,5 @@ mod ring;
 mod slots;
 mod sound;
 
-pub use creation::Created;
-pub use creation::create;
+pub use lengths::lengths_agree;
 pub use sound::is_sound;

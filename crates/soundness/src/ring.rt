@@ -27,10 +27,10 @@ fn goes_round(slots: &[u64], marks: &[u64], size: u32, held: u32, hand: Slot) ->
     let mut left = held;
     let mut at = hand.0;
     while left > 0 {
-        if pool::is_free(marks, Slot(at)) {
+        if free_marks::is_free(marks, Slot(at)) {
             return false;
         }
-        let next = pool::next(slots, Slot(at)).0;
+        let next = ring_links::next(slots, Slot(at)).0;
         if next >= size {
             return false;
         }

@@ -4,7 +4,7 @@ use page::PageCacheEntry;
 use page::PageRecord;
 use page::Slot;
 ghost use lib.ListN.{getD};
-ghost use Rattle.pool.specs.Marks.{bitAt};
+ghost use Rattle.free_marks.specs.Marks.{bitAt};
 ghost use Rattle.pool.specs.Slots.{entries, blank};
 ghost use Rattle.pool.specs.Tells.{Tells};
 ghost use Rattle.soundness.specs.Checks.{Readable, ReadableAt, Filled, Proper, AllProper};
@@ -22,7 +22,7 @@ fn is_proper(slots: &[u64], marks: &[u64], s: Slot) -> bool
     requires { ⌜ ReadableAt (now slots) (now marks) (s .0) ⌝ }
     ensures { λ r. ⌜ Tells r (Proper (bitAt (now (marks .entry)) (s .0)) (getD (entries (now (slots .entry))) (s .0) blank)) ⌝ }
 {
-    if pool::is_free(marks, s) {
+    if free_marks::is_free(marks, s) {
         return pool::is_blank(slots, s);
     }
     is_filled(pool::load(slots, s))

@@ -5,3 +5,4 @@ mod Walking
 mod Needing
 mod Selecting
 mod Answering
+mod Spilling

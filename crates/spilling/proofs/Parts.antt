@@ -1,15 +1,9 @@
 -- What the functions of this crate ask, a caller on sound memory has. Assumes nothing.
 use mathlib.Core.Path.{refl}
-use mathlib.Core.List.{List}
-use Prim.Native.Nat.{ℕ}
 use Rattle.page.specs.declared.cache.PageCache.{PageCache}
 use Rattle.memory.specs.Memory.{Memory}
 use Rattle.memory.specs.Holds.{Sound}
-use Rattle.answer.specs.Answer.{Ready}
-use Rattle.spilling.specs.Parts.{Readable, Listable}
+use Rattle.spilling.specs.Parts.{Readable}
 
 pub sound-readable : {m : Memory} {head : PageCache} → Sound m head → Readable (m .slots) (m .by-key) (head .held)
 sound-readable {m} {head} s = record { by-handle = m .by-handle; marks = m .marks; head = head; sound = s; same = refl }
-
-pub ready-listable : {m : Memory} {head : PageCache} {list : List ℕ} → Ready m head list → Listable (m .slots) (m .by-key) (head .held) list
-ready-listable r = record { readable = sound-readable (r .sound); long = r .long }

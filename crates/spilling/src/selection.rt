@@ -7,11 +7,14 @@ use page::PageCache;
 ghost use mathlib.Core.Path.{_≡_};
 ghost use mathlib.Core.List.{List};
 ghost use Prim.Native.Nat.{ℕ};
+ghost use lib.ListN.{length};
 ghost use Rattle.model.specs.Cache.{Cache};
+ghost use Rattle.model.specs.Call.{spill};
 ghost use Rattle.model.specs.Spill.{selection, onSpill};
+ghost use Rattle.model.specs.Step.{step};
 ghost use Rattle.memory.specs.Holds.{Holds};
 ghost use Rattle.answer.specs.Answer.{Comes};
-ghost use Rattle.spilling.specs.Parts.{joined, Listable, Selected};
+ghost use Rattle.spilling.specs.Parts.{joined, Readable, Listable, Selected};
 
 // Lists the handles of the first `most` pages by key that a spill may select, and says how many there are.
 fn collect_spillable_pages(
@@ -43,6 +46,23 @@ fn collect_spillable_pages(
 
 // Which pages to write out, if a spill is needed: `most` of them at most.
 pub fn check_spill(
+    slots: &[u64],
+    by_key: &[u32],
+    list: &mut [u32],
+    head: PageCache,
+    most: u64,
+) -> Answered
+    requires { ⌜ Readable (now slots) (now «by_key») (head .held) ⌝ }
+    ensures { λ r. ⌜ ((by-handle marks : List ℕ) (c : Cache) → Holds (joined (slots .entry) («by_key» .entry) by-handle marks) head c → Comes (step (spill most (length (now (list .entry)))) c) (now (list .entry)) (joined (slots .entry) («by_key» .entry) by-handle marks) (now (list .exit)) r) ⌝ }
+{
+    if list.len() < head.held as usize {
+        return Answered::plain(Answer::ShortList, head);
+    }
+    check_spill_listed(slots, by_key, list, head, most)
+}
+
+// The same for a list that is long enough.
+fn check_spill_listed(
     slots: &[u64],
     by_key: &[u32],
     list: &mut [u32],

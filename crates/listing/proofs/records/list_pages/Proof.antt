@@ -46,20 +46,20 @@ use Rattle.page.proofs.cache.PageCache.Laws as head-laws
 use Rattle.page.proofs.names.Slot as slot-type
 use Rattle.page.proofs.names.Slot.Laws as slot-laws
 use Rattle.memory.specs.Memory.{Memory}
-use Rattle.listing.specs.declared.admission.Admission.{Admission}
+use Rattle.listing.specs.declared.testing.Admission.{Admission}
 use Rattle.listing.specs.declared.listed.ListedPage.{ListedPage}
 use Rattle.listing.specs.Listing.{inRecords, Lists}
 use Rattle.listing.specs.Outcome.{Admits}
 use Rattle.listing.proofs.Outcomes.{records-fit, admitted, comes}
-use Rattle.listing.proofs.admission.Admission as admission-type
-use Rattle.listing.proofs.admission.Admission.Laws as admission-laws
-use Rattle.listing.proofs.admission.Listing as answer-type
-use Rattle.listing.proofs.admission.Listing.Laws as answer-laws
+use Rattle.listing.proofs.testing.Admission as admission-type
+use Rattle.listing.proofs.testing.Admission.Laws as admission-laws
+use Rattle.listing.proofs.testing.Listing as answer-type
+use Rattle.listing.proofs.testing.Listing.Laws as answer-laws
 use Rattle.listing.proofs.listed.ListedPage as page-type
-use Rattle.listing.proofs.admission.admit as admit
-use Rattle.listing.proofs.admission.admit.Symbol as admit-def
-use Rattle.listing.proofs.admission.admit.Symbol.{name as #admit}
-use Rattle.listing.proofs.admission.admit.Met as admit-thm
+use Rattle.listing.proofs.testing.admit as admit
+use Rattle.listing.proofs.testing.admit.Symbol as admit-def
+use Rattle.listing.proofs.testing.admit.Symbol.{name as #admit}
+use Rattle.listing.proofs.testing.admit.Met as admit-thm
 use Rattle.listing.proofs.records.list_records as records
 use Rattle.listing.proofs.records.list_records.Symbol as records-def
 use Rattle.listing.proofs.records.list_records.Symbol.{name as #list-records}
@@ -349,5 +349,5 @@ list-pages-spec 𝓤 H 𝓜 𝓖 𝓡 =
     entered 𝓤 H (tripleOf 𝓤 H (𝓖 .A) f.signature (f.spec 𝓤 H (𝓖 .A) (𝓜 .mem) (𝓡 .run)))
     (tables 𝓤 H 𝓜 𝓡 code.env .C) (tables 𝓤 H 𝓜 𝓡 code.env .Λ) #list-pages code.function (code.unfolded 𝓤 H 𝓜 𝓡)
     (list-pages-meets 𝓤 H (𝓖 .A) (givenOf 𝓤 H 𝓜 𝓖) (𝓜 .mem) (𝓡 .run) (tablesOf 𝓤 H 𝓜 (tables 𝓤 H 𝓜 𝓡 code.env))
-    (cited 𝓤 H (Admit 𝓤 H (𝓖 .A) (𝓜 .mem) (𝓡 .run)) 𝓜 𝓡 code.env #admit admit-def.routine code.calls-listing·admission·admit (admit-thm.met 𝓤 H 𝓜 𝓖 𝓡))
+    (cited 𝓤 H (Admit 𝓤 H (𝓖 .A) (𝓜 .mem) (𝓡 .run)) 𝓜 𝓡 code.env #admit admit-def.routine code.calls-listing·testing·admit (admit-thm.met 𝓤 H 𝓜 𝓖 𝓡))
     (cited 𝓤 H (Records 𝓤 H (𝓖 .A) (𝓜 .mem) (𝓡 .run)) 𝓜 𝓡 code.env #list-records records-def.routine code.calls-listing·records·list-records (records-thm.met 𝓤 H 𝓜 𝓖 𝓡)))

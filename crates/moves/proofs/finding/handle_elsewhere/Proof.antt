@@ -8,7 +8,8 @@ use Rattle.order.specs.Names.{names}
 use Rattle.order.specs.Index.{Found}
 use Rattle.order.specs.declared.search.Spot.{Spot}
 use Rattle.order.specs.declared.search.By.the-variants.{Handle}
-use Rattle.moves.proofs.Search.{index-slot, handle-hit, handle-miss}
+use Rattle.order.proofs.Names.{index-slot}
+use Rattle.moves.proofs.Search.{handle-hit, handle-miss}
 use Rattle.moves.proofs.finding.handle_elsewhere.Statement.{statement}
 use Rattle.moves.proofs.finding.handle_elsewhere.Tie as tie
 

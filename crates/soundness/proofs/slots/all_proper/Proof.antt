@@ -2,7 +2,7 @@
 use Prim.Native.Nat.{_-_}
 use native.Mathlib.Omega.{arith}
 use lib.ListN.{getD}
-use Rattle.pool.specs.Marks.{bitAt}
+use Rattle.free_marks.specs.Marks.{bitAt}
 use Rattle.pool.specs.Slots.{entries, blank}
 use Rattle.pool.proofs.Tells.{fails, passes}
 use Rattle.soundness.specs.Checks.{Proper}

@@ -1,55 +1,30 @@
--- The answer is that of the need and of what was selected. Assumes nothing.
-use mathlib.Core.Path.{refl}
-use borrow.Author.Tests.{not-true, not-false}
+-- The list is measured, and the call is refused or goes by its rules. Assumes nothing.
 use borrow.Author.Needs.{needs}
-use Rattle.spilling.proofs.Answering.{comes-not-needed, comes-none, comes-some}
+use Rattle.answer.proofs.Steps.{comes-told}
+use Rattle.spilling.proofs.Spilling.{spill-short, spill-acts}
 use Rattle.spilling.proofs.selection.check_spill.Statement.{statement}
 use Rattle.spilling.proofs.selection.check_spill.Tie as tie
 
-needs-spill-requires : tie.Need-needs-spill-requires
-needs-spill-requires c κs = search needs
+cast-if1 : tie.Need-cast-if1
+cast-if1 c = search needs
 
 plain-requires : tie.Need-plain-requires
 plain-requires c κs = search needs
 
 returns : tie.Need-returns
-returns c = λ by-handle marks cache g.
-    comes-not-needed _ g (c .before .before .needs-spill .ensures by-handle marks cache g) (not-true _ (c .before .if1 .taken)) (c .plain .ensures)
+returns c = λ by-handle marks d h. comes-told (c .plain .ensures) (spill-short _ h (c .before .if1 .taken))
 
-collect-spillable-pages-requires : tie.Need-collect-spillable-pages-requires
-collect-spillable-pages-requires c κs = search needs
-
-plain-requires-2 : tie.Need-plain-requires-2
-plain-requires-2 c κs = search needs
+check-spill-listed-requires : tie.Need-check-spill-listed-requires
+check-spill-listed-requires c κs = search needs
 
 same-length : tie.Need-same-length
 same-length c = search needs
 
 returns-2 : tie.Need-returns-2
-returns-2 c = λ by-handle marks cache g.
-    comes-none _ g (c .before .before .before .before .before .before .before .needs-spill .ensures by-handle marks cache g)
-    (not-false _ (c .before .before .before .before .before .before .if1 .left))
-    (c .before .before .before .before .collect-spillable-pages .ensures by-handle marks _ cache g refl) (c .before .if2 .taken) (c .plain2 .ensures)
-
-same-length-2 : tie.Need-same-length-2
-same-length-2 c = search needs
-
-returns-3 : tie.Need-returns-3
-returns-3 c = λ by-handle marks cache g.
-    comes-some _ g (c .before .before .before .before .before .before .needs-spill .ensures by-handle marks cache g)
-    (not-false _ (c .before .before .before .before .before .if1 .left))
-    (c .before .before .before .collect-spillable-pages .ensures by-handle marks _ cache g refl) (c .if2 .left)
+returns-2 c = λ by-handle marks d h.
+    spill-acts _ h (c .before .before .before .before .if1 .left) (c .before .before .check-spill-listed .ensures by-handle marks d h)
 
 pub check-spill-spec : {M : Type 1} → statement M
 check-spill-spec =
     tie.close
-    (tie.spec
-    needs-spill-requires
-    plain-requires
-    returns
-    collect-spillable-pages-requires
-    plain-requires-2
-    same-length
-    returns-2
-    same-length-2
-    returns-3)
+    (tie.spec cast-if1 plain-requires returns check-spill-listed-requires same-length returns-2)

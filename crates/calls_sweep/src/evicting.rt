@@ -1,0 +1,25 @@
+use answer::Answer;
+use answer::Answered;
+use page::PageCache;
+use soundness::is_sound;
+ghost use lib.ListN.{length};
+ghost use Rattle.model.specs.Call as call;
+ghost use Rattle.memory.specs.Memory.{memories};
+ghost use Rattle.contract.specs.Called.{lent, Called};
+
+// Takes one page: of those that may go, the lowest use count, the first from the hand among equals.
+pub fn evict_one(
+    slots: &mut [u64],
+    by_key: &mut [u32],
+    by_handle: &mut [u32],
+    marks: &mut [u64],
+    list: &mut [u32],
+    head: PageCache,
+) -> Answered
+    ensures { λ r. let m = memories slots «by_key» «by_handle» marks in ⌜ Called (call.evict-one (length (now (list .entry)))) (lent (m .entry) (now (list .entry))) head (lent (m .exit) (now (list .exit))) r ⌝ }
+{
+    if !is_sound(slots, by_key, by_handle, marks, head) {
+        return Answered::plain(Answer::NotSound, head);
+    }
+    resizing::evict(slots, by_key, by_handle, marks, list, head)
+}

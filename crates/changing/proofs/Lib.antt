@@ -1,0 +1,3 @@
+pub mod Change
+pub mod Relisting
+pub mod Replacement

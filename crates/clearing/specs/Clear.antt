@@ -1,0 +1,44 @@
+-- Everything goes (01, rule 11). Assumes nothing.
+use mathlib.Core.Path.{_≡_}
+use mathlib.Core.Bool.{Bool, true, false}
+use mathlib.Core.List.{List, [], _∷_, map}
+use Prim.Native.Nat.{ℕ, _≤_}
+use lib.ListN.{length, take}
+use Rattle.page.specs.Record.{dirty}
+use Rattle.pool.specs.Slots.{entries}
+use Rattle.order.specs.Index.{Index}
+use Rattle.order.specs.Names.{names}
+use Rattle.order.specs.declared.search.By.the-variants.{Key}
+use Rattle.model.specs.Row.{Page, Row, those}
+use Rattle.memory.specs.Holds.{rowOf}
+use Rattle.clearing.specs.declared.clearing.Hindrance.{Hindrance}
+use Rattle.clearing.specs.declared.clearing.Hindrance.the-variants.{Nothing, Dirty}
+
+-- the entries of the n slots of the index, by ascending key
+abbrev pub walked : (slots by-key : List ℕ) → ℕ → Row
+walked slots by-key n = rowOf (entries slots) (take n by-key)
+
+abbrev pub handlesOf : Row → List ℕ
+handlesOf row = map (λ e. e .page .handle) row
+
+-- the pages that stand against it: the dirty ones, unless they are to go too
+abbrev pub hindering : Bool → Row → List Page
+hindering true row = []
+hindering false row = those (λ p. dirty (p .state)) row
+
+-- the first of the pages has the key
+pub record First (pages : List Page) (key : ℕ) : Type 0 where
+  pub page : Page
+  pub rest : List Page
+  pub parts : pages ≡ page ∷ rest
+  pub named : key ≡ page .key
+
+-- there is none, or the first one is told
+abbrev pub FirstIs : List Page → Hindrance → Type 0
+FirstIs pages Nothing = pages ≡ []
+FirstIs pages (Dirty key) = First pages (key .0)
+
+-- an index of n slots, and a list with a place for each
+pub record Listable (slots by-key list : List ℕ) (n : ℕ) : Type 0 where
+  pub index : Index (names Key (entries slots)) by-key n
+  pub long : n ≤ length list

@@ -1,0 +1,5 @@
+pub mod Calling
+pub mod Quiet
+pub mod Same
+pub mod Refused
+pub mod Following

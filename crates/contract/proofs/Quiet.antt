@@ -1,0 +1,69 @@
+-- A call that lists nothing leaves a list alone, so that it need not be lent one. Assumes nothing.
+use mathlib.Core.Bool.{Bool, true, false}
+use mathlib.Core.List.{List, []}
+use mathlib.Core.Option.{Option, none, some}
+use mathlib.Core.Path.{_≡_, refl}
+use Prim.Native.Nat.{ℕ, zero, suc}
+use Rattle.page.specs.Cache.{pageOne}
+use Rattle.page.specs.declared.record.PageRecord.{PageRecord}
+use Rattle.model.specs.Row.{Entry, find}
+use Rattle.model.specs.Cache.{Cache, up, down}
+use Rattle.model.specs.Call.{Call, Outcome, peek, notify-dirty, notify-spilled, write, switch}
+use Rattle.model.specs.Rules.{peekFound, notified, writeFound}
+use Rattle.model.specs.Step.{act, tested, step}
+use Rattle.model.specs.Tests.{refusal}
+use Rattle.model.proofs.KeptCases.{either}
+use Rattle.memory.specs.Memory.{Memory}
+use Rattle.answer.specs.Answer.{Follows, Comes}
+use Rattle.answer.specs.declared.answered.Answered.{Answered}
+use Rattle.answer.proofs.Steps.{unlisted-comes}
+
+-- calls that list nothing by their rules
+pub record Quiet (call : Call) : Type 0 where
+  pub silent : (c : Cache) → act call c .listed ≡ []
+
+-- nor do they by the tests
+quiet-step : {call : Call} → Quiet call → (c : Cache) → step call c .listed ≡ []
+unfolding step
+quiet-step {call} q c = go (refusal call c)
+  where
+    go : (code : ℕ) → tested code call c .listed ≡ []
+    go zero = q .silent c
+    go (suc n) = refl
+
+pub quiet-comes : {call : Call} → Quiet call → (c : Cache) {m : Memory} {list : List ℕ} {r : Answered} → Follows (step call c) m r
+    → Comes (step call c) list m list r
+quiet-comes q c f = unlisted-comes f (quiet-step q c)
+
+pub quiet-peek : (key : ℕ) (asked : Bool) → Quiet (peek key asked)
+unfolding act
+quiet-peek key asked = record { silent = λ c. go (find key (c .row)) asked c }
+  where
+    go : (found : Option Entry) (asked : Bool) (c : Cache) → peekFound key asked found c .listed ≡ []
+    go none asked c = refl
+    go (some e) true c = refl
+    go (some e) false c = refl
+
+pub quiet-write : (key : ℕ) (state : PageRecord) → Quiet (write key state)
+unfolding act
+quiet-write key state = record { silent = λ c. go (find key (c .row)) c }
+  where
+    go : (found : Option Entry) (c : Cache) → writeFound key state found c .listed ≡ []
+    go none c = refl
+    go (some e) c = refl
+
+quiet-notice : (by : ℕ → ℕ) (found : Option Entry) (c : Cache) → notified by found c .listed ≡ []
+quiet-notice by none c = refl
+quiet-notice by (some e) c = either (λ (o : Outcome). o .listed ≡ []) (pageOne (e .page .key)) (λ _. refl) (λ _. refl)
+
+pub quiet-dirty : (key : ℕ) → Quiet (notify-dirty key)
+unfolding act
+quiet-dirty key = record { silent = λ c. quiet-notice down (find key (c .row)) c }
+
+pub quiet-spilled : (key : ℕ) → Quiet (notify-spilled key)
+unfolding act
+quiet-spilled key = record { silent = λ c. quiet-notice up (find key (c .row)) c }
+
+pub quiet-switch : (on : Bool) → Quiet (switch on)
+unfolding act
+quiet-switch on = record { silent = λ c. refl }

@@ -1,0 +1,108 @@
+-- The search finds the page, which goes by rule 8, or none. Assumes nothing.
+use mathlib.Core.Path.{refl}
+use Prim.Native.Nat.{_≤_}
+use lib.ListN.{length}
+use denote.Ref.{now}
+use borrow.Author.Needs.{needs}
+use Rattle.model.specs.Cache.{Cache}
+use Rattle.memory.specs.Memory.{memory}
+use Rattle.memory.specs.Holds.{Holds}
+use Rattle.memory.proofs.Standing.{holds-by-key}
+use Rattle.answer.proofs.Steps.{comes-told}
+use Rattle.moves.specs.Moves.{KeyAt}
+use Rattle.deletion.proofs.Deleting.{can-delete, delete-short, delete-absent, delete-there}
+use Rattle.deletion.proofs.deletion.delete.Statement.{statement}
+use Rattle.deletion.proofs.deletion.delete.Tie as tie
+
+-- from the search back to the start
+abbrev start : tie.After-s → tie.Start
+start c = c .before .before .before .before .before .before .before .before .before .before .before .before
+
+-- what the search found
+found : (c : tie.After-s) (w : Cache) → Holds (memory (start c .args .slots) (start c .args .by-key) (start c .args .by-handle) (start c .args .marks)) (start c .args .head) w
+    → KeyAt (w .row) (start c .args .key .0) (c .s .given .0 .0 .0)
+found c w H = rw (c .s .given .1) at (c .before .before .seat-of .ensures _ _ _ w H refl)
+
+long : (c : tie.After-s) → start c .args .head .held ≤ length (now (start c .args .list))
+long c = c .before .before .before .before .before .if1 .left
+
+cast-if1 : tie.Need-cast-if1
+cast-if1 c = search needs
+
+plain-requires : tie.Need-plain-requires
+plain-requires c κs = search needs
+
+returns : tie.Need-returns
+returns c = λ w H. comes-told (c .plain .ensures) (delete-short H _ (c .before .if1 .taken))
+
+seat-of-requires : tie.Need-seat-of-requires
+seat-of-requires c κs = holds-by-key (c .before .before .before .before .before .before .before .before .before .pre .holds)
+
+enum-known-s : tie.Need-enum-known-s
+enum-known-s c = search needs
+
+enum-told : tie.Need-enum-told
+enum-told c = search needs
+
+plain-requires-2 : tie.Need-plain-requires-2
+plain-requires-2 c κs = search needs
+
+same-length : tie.Need-same-length
+same-length c = search needs
+
+same-length-2 : tie.Need-same-length-2
+same-length-2 c = search needs
+
+returns-2 : tie.Need-returns-2
+returns-2 c = λ w H.
+    comes-told (c .plain2 .ensures)
+    (delete-absent H _ (c .before .before .before .before .before .before .if1 .left) (rw (c .before .enum-told .given .1) at (c .before .before .before .seat-of .ensures _ _ _ w H refl)))
+
+delete-at-requires : tie.Need-delete-at-requires
+delete-at-requires c κs =
+    let seat = c .before .before .before .before .before .before in
+    let H = start seat .pre .holds in
+    can-delete H (found seat _ H) (long seat)
+
+same-length-3 : tie.Need-same-length-3
+same-length-3 c = search needs
+
+same-length-4 : tie.Need-same-length-4
+same-length-4 c = search needs
+
+same-length-5 : tie.Need-same-length-5
+same-length-5 c = search needs
+
+same-length-6 : tie.Need-same-length-6
+same-length-6 c = search needs
+
+same-length-7 : tie.Need-same-length-7
+same-length-7 c = search needs
+
+returns-3 : tie.Need-returns-3
+returns-3 c = λ w H.
+    let seat = c .before .before .before .before .before .before .before .before .before .before .before .before .before .before .before .before .before in
+    let at = found seat w H .stands in
+    delete-there H _ (long seat) at (c .before .before .before .before .before .before .before .before .before .before .delete-at .ensures w _ _ H at)
+
+pub delete-spec : {M : Type 1} → statement M
+delete-spec =
+    tie.close
+    (tie.spec
+    cast-if1
+    plain-requires
+    returns
+    seat-of-requires
+    enum-known-s
+    enum-told
+    plain-requires-2
+    same-length
+    same-length-2
+    returns-2
+    delete-at-requires
+    same-length-3
+    same-length-4
+    same-length-5
+    same-length-6
+    same-length-7
+    returns-3)

@@ -1,0 +1,85 @@
+-- What is loaded at the slot is the page, and its record decides: it stays, and nothing was written, or it is listed and
+-- removed. Assumes nothing.
+use mathlib.Core.Logic.{_≢_}
+use native.Mathlib.Omega.{arith}
+use borrow.Author.Needs.{needs}
+use Rattle.page.specs.declared.record.Deletable.the-variants.{Yes}
+use Rattle.removing.proofs.Removal.{slot-inside}
+use Rattle.deletion.proofs.Deleting.{some-reason, page-goes, page-stays}
+use Rattle.deletion.proofs.deletion.delete_page.Statement.{statement}
+use Rattle.deletion.proofs.deletion.delete_page.Tie as tie
+
+-- in the arm of the reasons there is one
+may-not : (c : tie.At-match-keys2) → c .before .deletable .result ≢ Yes
+may-not c granted = some-reason (rw granted at (c .match .keys2))
+
+load-requires : tie.Need-load-requires
+load-requires c κs = slot-inside (c .before .before .before .before .before .before .pre .removable .holds) (c .before .before .before .before .before .before .pre .removable .stands)
+
+deletable-requires : tie.Need-deletable-requires
+deletable-requires c κs = search needs
+
+enum-told : tie.Need-enum-told
+enum-told c = search needs
+
+refusal-requires : tie.Need-refusal-requires
+refusal-requires c κs = search needs
+
+same-length : tie.Need-same-length
+same-length c = search needs
+
+returns : tie.Need-returns
+returns c = λ w key e H at.
+    let asked = c .before .before in
+    page-stays H at (asked .before .load .ensures) (asked .deletable .ensures) (may-not (c .before)) (c .refusal .ensures)
+
+mul-list : tie.Need-mul-list
+mul-list c = omega (arith, c .before .before .before .before .before .before .before .before .before .before .pre .within, c .before .before .before .before .before .before .before .before .before .before .good)
+
+slice-write-list : tie.Need-slice-write-list
+slice-write-list c = c .before .before .before .before .before .before .before .before .before .before .pre .within
+
+remove-at-slot-requires : tie.Need-remove-at-slot-requires
+remove-at-slot-requires c κs = c .before .before .before .before .before .before .before .before .before .before .before .before .before .before .pre .removable
+
+same-length-2 : tie.Need-same-length-2
+same-length-2 c = search needs
+
+same-length-3 : tie.Need-same-length-3
+same-length-3 c = search needs
+
+same-length-4 : tie.Need-same-length-4
+same-length-4 c = search needs
+
+same-length-5 : tie.Need-same-length-5
+same-length-5 c = search needs
+
+same-length-6 : tie.Need-same-length-6
+same-length-6 c = search needs
+
+returns-2 : tie.Need-returns-2
+returns-2 c = λ w key e H at.
+    let removed = c .before .before .before .before .before .before .before .before in
+    let told = removed .before .before .before .before .before in
+    let asked = told .before .before in
+    page-goes H at (asked .before .load .ensures) (asked .deletable .ensures) (told .enum-told .given .1) (removed .remove-at-slot .ensures)
+
+pub delete-page-spec : {M : Type 1} → statement M
+delete-page-spec =
+    tie.close
+    (tie.spec
+    load-requires
+    deletable-requires
+    enum-told
+    refusal-requires
+    same-length
+    returns
+    mul-list
+    slice-write-list
+    remove-at-slot-requires
+    same-length-2
+    same-length-3
+    same-length-4
+    same-length-5
+    same-length-6
+    returns-2)

@@ -1,0 +1,46 @@
+// The marks of free slots: 1 bits in 64-bit words, lowest slot in the lowest bit.
+use page::Slot;
+ghost use mathlib.Core.Path.{_≡_};
+ghost use Prim.Native.Nat.{_/_, _<_};
+ghost use lib.ListN.{length};
+ghost use Rattle.free_marks.specs.Marks.{bitAt, MarkedAs, SomeFree, LowestFree};
+ghost use Rattle.pool.specs.Tells.{Tells};
+
+pub fn is_free(marks: &[u64], s: Slot) -> bool
+    requires { ⌜ s .0 / 64 < length (now marks) ⌝ }
+    ensures { λ r. ⌜ Tells r (bitAt (now (marks .entry)) (s .0) ≡ 1) ⌝ }
+{
+    let w = s.0 as usize / 64;
+    (marks[w] >> (s.0 % 64)) % 2 == 1
+}
+
+pub fn mark_free(marks: &mut [u64], s: Slot)
+    requires { ⌜ s .0 / 64 < length (now marks) ⌝ }
+    ensures { λ _. ⌜ MarkedAs 1 (now (marks .entry)) (s .0) (now (marks .exit)) ⌝ }
+{
+    let w = s.0 as usize / 64;
+    let word = marks[w];
+    marks[w] = word | (1 << (s.0 % 64));
+}
+
+pub fn mark_held(marks: &mut [u64], s: Slot)
+    requires { ⌜ s .0 / 64 < length (now marks) ⌝ }
+    ensures { λ _. ⌜ MarkedAs 0 (now (marks .entry)) (s .0) (now (marks .exit)) ⌝ }
+{
+    let w = s.0 as usize / 64;
+    let word = marks[w];
+    marks[w] = word & !(1 << (s.0 % 64));
+}
+
+// The lowest free slot. It looks at one mark after another; callers rely on the contract alone, so that a faster way
+// may take its place.
+pub fn lowest_free(marks: &[u64]) -> Slot
+    requires { ⌜ SomeFree (now marks) ⌝ }
+    ensures { λ r. ⌜ LowestFree (now (marks .entry)) (r .0) ⌝ }
+{
+    let mut s: u32 = 0;
+    while !is_free(marks, Slot(s)) {
+        s += 1;
+    }
+    Slot(s)
+}

@@ -1,3 +1,0 @@
-pub mod Deletion
-pub mod Parts
-pub mod Notice

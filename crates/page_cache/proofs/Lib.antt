@@ -1,6 +1,0 @@
-pub mod Calling
-pub mod Quiet
-pub mod Spilling
-pub mod Same
-pub mod Refused
-pub mod Following

@@ -1,0 +1,21 @@
+-- The answer is by whether the evictions ended with Full. Assumes nothing.
+use borrow.Author.Needs.{needs}
+use Rattle.resizing.proofs.resizing.resized.Statement.{statement}
+use Rattle.resizing.proofs.resizing.resized.Tie as tie
+
+cast-listed : tie.Need-cast-listed
+cast-listed c = search needs
+
+returns : tie.Need-returns
+returns c = rw (c .if1 .taken)
+
+returns-2 : tie.Need-returns-2
+returns-2 c = rw (c .if1 .left)
+
+pub resized-spec : {M : Type 1} → statement M
+resized-spec =
+    tie.close
+    (tie.spec
+    cast-listed
+    returns
+    returns-2)

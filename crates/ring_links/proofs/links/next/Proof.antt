@@ -1,0 +1,13 @@
+-- The entry that is loaded is the slot's, and so is its next link. Assumes nothing.
+use borrow.Author.Needs.{needs}
+use Rattle.ring_links.proofs.links.next.Statement.{statement}
+use Rattle.ring_links.proofs.links.next.Tie as tie
+
+load-requires : tie.Need-load-requires
+load-requires c κs = search needs
+
+returns : tie.Need-returns
+returns c = rw (c .before .load .ensures)
+
+pub next-spec : {M : Type 1} → statement M
+next-spec = tie.close (tie.spec load-requires returns)

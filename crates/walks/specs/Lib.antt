@@ -1,3 +1,0 @@
-pub mod Resize
-pub mod Deletions
-pub mod Clear
