@@ -88,27 +88,46 @@ pub enum Outcome {
     Mark(Mark),
 }
 
-/// The replay program's line, or `?` and the mark's reason.
+impl Answer {
+    /// Writes the replay program's line, without its end.
+    pub fn write_line(&self, line: &mut Vec<u8>) {
+        for number in [u64::from(self.code), self.value, self.passed] {
+            push_number(line, number);
+            line.push(b' ');
+        }
+        push_number(line, self.held as u64);
+        line.push(b' ');
+        match self.hand {
+            Some(key) => push_number(line, key.into()),
+            None => line.push(b'-'),
+        }
+        line.push(b' ');
+        push_number(line, self.list.len() as u64);
+        for &handle in &self.list {
+            line.push(b' ');
+            push_number(line, handle.into());
+        }
+    }
+}
+
+impl Outcome {
+    /// Writes the replay program's line, or `?` and the mark's reason.
+    pub fn write_line(&self, line: &mut Vec<u8>) {
+        match self {
+            Outcome::Answer(answer) => answer.write_line(line),
+            Outcome::Mark(mark) => {
+                line.extend_from_slice(b"? ");
+                line.extend_from_slice(mark.reason().as_bytes());
+            }
+        }
+    }
+}
+
 impl fmt::Display for Outcome {
-    fn fmt(&self, line: &mut fmt::Formatter) -> fmt::Result {
-        let answer = match self {
-            Outcome::Mark(mark) => return write!(line, "? {}", mark.reason()),
-            Outcome::Answer(answer) => answer,
-        };
-        write!(
-            line,
-            "{} {} {} {} ",
-            answer.code, answer.value, answer.passed, answer.held
-        )?;
-        match answer.hand {
-            Some(key) => write!(line, "{key}")?,
-            None => line.write_str("-")?,
-        }
-        write!(line, " {}", answer.list.len())?;
-        for handle in &answer.list {
-            write!(line, " {handle}")?;
-        }
-        Ok(())
+    fn fmt(&self, text: &mut fmt::Formatter) -> fmt::Result {
+        let mut line = Vec::new();
+        self.write_line(&mut line);
+        text.write_str(&String::from_utf8_lossy(&line))
     }
 }
 
@@ -122,15 +141,51 @@ pub struct State {
     pub ring: Vec<RingEntry>,
 }
 
-/// `- CAPACITY SPILL ESTIMATE HELD`, then `KEY:HANDLE:USES` for each page.
-impl fmt::Display for State {
-    fn fmt(&self, line: &mut fmt::Formatter) -> fmt::Result {
-        let spill = u8::from(self.spill_enabled);
-        let held = self.ring.len();
-        write!(line, "- {} {spill} {} {held}", self.capacity, self.estimate)?;
-        for RingEntry { key, handle, uses } in &self.ring {
-            write!(line, " {key}:{handle}:{uses}")?;
+/// The state line before the first good creation.
+pub const NO_CACHE: &str = "- no cache";
+
+impl State {
+    /// Writes `- CAPACITY SPILL ESTIMATE HELD`, then `KEY:HANDLE:USES` for each
+    /// page.
+    pub fn write_line(&self, line: &mut Vec<u8>) {
+        line.extend_from_slice(b"- ");
+        push_number(line, self.capacity as u64);
+        line.extend_from_slice(if self.spill_enabled { b" 1 " } else { b" 0 " });
+        push_number(line, self.estimate as u64);
+        line.push(b' ');
+        push_number(line, self.ring.len() as u64);
+        for &RingEntry { key, handle, uses } in &self.ring {
+            line.push(b' ');
+            push_number(line, key.into());
+            line.push(b':');
+            push_number(line, handle.into());
+            line.push(b':');
+            push_number(line, uses.into());
         }
-        Ok(())
     }
+}
+
+impl fmt::Display for State {
+    fn fmt(&self, text: &mut fmt::Formatter) -> fmt::Result {
+        let mut line = Vec::new();
+        self.write_line(&mut line);
+        text.write_str(&String::from_utf8_lossy(&line))
+    }
+}
+
+/// Writes a number in decimal, without the standard library's formatting: a long
+/// run writes a hundred numbers for each record.
+fn push_number(line: &mut Vec<u8>, number: u64) {
+    let mut digits = [0; 20];
+    let mut first = digits.len();
+    let mut left = number;
+    loop {
+        first -= 1;
+        digits[first] = b'0' + (left % 10) as u8;
+        left /= 10;
+        if left == 0 {
+            break;
+        }
+    }
+    line.extend_from_slice(&digits[first..]);
 }

@@ -3,14 +3,17 @@
 //!
 //! `storage::page_cache` is the Rust file as published. `sync`, `assert` and the
 //! rest of `storage` stand in for the parts of turso_core that it uses.
-//! `driver` turns a record into a call and the outcome into an answer; nothing
-//! here works out what the cache would do.
+//! `driver` turns a record into a call and the outcome into an answer. `compare`
+//! holds another program's output to it. Nothing here works out what the cache
+//! would do, but for the walks by ascending key in `compare::walk`.
 
 pub mod answer;
 pub mod assert;
 pub mod call;
+pub mod compare;
 pub mod driver;
 pub mod generate;
+pub mod read_ahead;
 pub mod record;
 pub mod replay;
 pub mod rng;

@@ -1,15 +1,18 @@
 //! The command `oracle`: usage, options and dispatch.
 
+use oracle::compare::{compare, Form};
 use oracle::driver::WalkOrder;
 use oracle::generate::{exhaustive, random};
+use oracle::read_ahead::ReadAhead;
 use oracle::record::Record;
 use oracle::replay::{replay, ReplayError};
 use std::fs::File;
-use std::io::{self, BufReader, BufWriter, Write};
+use std::io::{self, BufReader, BufWriter, Read, Write};
 use std::process::ExitCode;
 
 const USAGE: &str = "\
 usage: oracle replay [--state] [--by-key] [FILE]
+       oracle compare [--answers] TRACE [OUTPUT]
        oracle generate random --seed N --records N [--marks PERCENT] [--exact]
        oracle generate exhaustive --length N [--capacity N] [--exact]
        oracle help
@@ -17,6 +20,9 @@ usage: oracle replay [--state] [--by-key] [FILE]
 replay     answers 32-byte records from FILE or standard input, a line each
   --state       adds a line with the whole state after each answer
   --by-key      lists what truncation, frame removal and clear removed by key
+compare    holds what a replay program wrote for TRACE, read from OUTPUT or
+           standard input, to what the Rust does
+  --answers     the program wrote only answers, no states (no --state)
 generate   writes 32-byte records to standard output
   random        a random trace: the same seed gives the same records
   exhaustive    all sequences of N calls from a fixed alphabet, each after a
@@ -74,6 +80,7 @@ fn run(arguments: &[String]) -> Result<(), Fault> {
     let words: Vec<&str> = arguments.iter().map(String::as_str).collect();
     match words.as_slice() {
         ["replay", options @ ..] => run_replay(options),
+        ["compare", options @ ..] => run_compare(options),
         ["generate", "random", options @ ..] => run_random(options),
         ["generate", "exhaustive", options @ ..] => run_exhaustive(options),
         ["help" | "--help" | "-h"] => io::stdout()
@@ -113,6 +120,36 @@ fn run_replay(options: &[&str]) -> Result<(), Fault> {
         ReplayError::Write(error) => output_fault(error),
         fault => failed(name, &fault),
     })
+}
+
+fn run_compare(options: &[&str]) -> Result<(), Fault> {
+    let mut form = Form::AnswersAndStates;
+    let mut files = Vec::new();
+    for &option in options {
+        match option {
+            "--answers" => form = Form::Answers,
+            _ if option.starts_with('-') => return Err(unknown(option)),
+            _ => files.push(option),
+        }
+    }
+    let (trace, output) = match files.as_slice() {
+        [trace] => (*trace, None),
+        [trace, output] => (*trace, Some(*output)),
+        _ => return Err(Fault::Usage("compare takes one or two files".into())),
+    };
+    let open = |path: &str| File::open(path).map_err(|error| failed(path, &error));
+    let mut records = BufReader::new(ReadAhead::new(open(trace)?));
+    let compared = match output {
+        Some(path) => compare(&mut records, &mut buffered(open(path)?), form),
+        None => compare(&mut records, &mut buffered(io::stdin().lock()), form),
+    };
+    let summary = compared.map_err(|failure| Fault::Failed(failure.to_string()))?;
+    write!(io::stdout(), "{summary}").map_err(output_fault)
+}
+
+/// States are long lines.
+fn buffered<R: Read>(input: R) -> BufReader<R> {
+    BufReader::with_capacity(1 << 16, input)
 }
 
 fn run_random(options: &[&str]) -> Result<(), Fault> {

@@ -1,5 +1,6 @@
 //! The replay program with the Rust inside: records in, one line each out.
 
+use crate::answer::{State, NO_CACHE};
 use crate::driver::{Driver, WalkOrder};
 use crate::record::Record;
 use std::fmt;
@@ -51,6 +52,7 @@ fn write_lines(
 ) -> Result<(), ReplayError> {
     let mut driver = Driver::new(order);
     let mut bytes = [0; Record::LENGTH];
+    let mut lines = Vec::new();
     let mut empty = true;
     loop {
         match read_record(input, &mut bytes).map_err(ReplayError::Read)? {
@@ -62,23 +64,32 @@ fn write_lines(
                 return Err(ReplayError::ShortRecord(short));
             }
         }
-        let outcome = driver.apply(&Record::from_bytes(&bytes));
-        writeln!(output, "{outcome}").map_err(ReplayError::Write)?;
+        lines.clear();
+        driver
+            .apply(&Record::from_bytes(&bytes))
+            .write_line(&mut lines);
+        lines.push(b'\n');
         if with_state {
-            write_state(&driver, output).map_err(ReplayError::Write)?;
+            write_state(driver.state().as_ref(), &mut lines);
+            lines.push(b'\n');
         }
+        output.write_all(&lines).map_err(ReplayError::Write)?;
     }
 }
 
-fn write_state(driver: &Driver, output: &mut impl Write) -> io::Result<()> {
-    match driver.state() {
-        Some(state) => writeln!(output, "{state}"),
-        None => writeln!(output, "- no cache"),
+/// Writes the state line, without its end.
+pub fn write_state(state: Option<&State>, line: &mut Vec<u8>) {
+    match state {
+        Some(state) => state.write_line(line),
+        None => line.extend_from_slice(NO_CACHE.as_bytes()),
     }
 }
 
 /// Fills the record as far as the input goes and tells how many bytes there were.
-fn read_record(input: &mut impl BufRead, record: &mut [u8; Record::LENGTH]) -> io::Result<usize> {
+pub fn read_record(
+    input: &mut impl BufRead,
+    record: &mut [u8; Record::LENGTH],
+) -> io::Result<usize> {
     let mut filled = 0;
     while filled < Record::LENGTH {
         match input.read(&mut record[filled..]) {

@@ -69,6 +69,70 @@ fn a_missing_file_is_refused() {
     fails(run(&["replay", "no/such/file"]), "", "no/such/file");
 }
 
+/// A file that is removed again.
+struct Scratch(std::path::PathBuf);
+
+impl Scratch {
+    fn new(name: &str, content: &[u8]) -> Self {
+        let path = std::path::Path::new(env!("CARGO_TARGET_TMPDIR")).join(name);
+        std::fs::write(&path, content).expect("it can be written");
+        Self(path)
+    }
+
+    fn path(&self) -> &str {
+        self.0.to_str().expect("the path is text")
+    }
+}
+
+impl Drop for Scratch {
+    fn drop(&mut self) {
+        let _ = std::fs::remove_file(&self.0);
+    }
+}
+
+#[test]
+fn comparing_takes_right_output_and_refuses_wrong() {
+    let right = output_of(&["replay", "--by-key", "--state", SAMPLE], &[]);
+    let said = String::from_utf8(output_of(&["compare", SAMPLE], &right)).unwrap();
+    assert!(said.contains("4000 compared exactly"), "{said}");
+    let file = Scratch::new("right-output", &right);
+    let of_file = output_of(&["compare", SAMPLE, file.path()], &[]);
+    assert_eq!(String::from_utf8(of_file).unwrap(), said);
+
+    let text = String::from_utf8(right).unwrap();
+    let (first, rest) = text.split_once('\n').unwrap();
+    let wrong = format!("1{first}\n{rest}");
+    let output = run_with_input(&["compare", SAMPLE], wrong.as_bytes());
+    fails(
+        output,
+        "",
+        "oracle: record 1 differs: code\n  call     create ",
+    );
+
+    let answers = std::fs::read(SAMPLE.replace("records.bin", "answers.txt")).unwrap();
+    output_of(&["compare", "--answers", SAMPLE], &answers);
+    let output = run_with_input(&["compare", SAMPLE], &answers);
+    fails(output, "", "record 1 differs: no state line");
+}
+
+#[test]
+fn comparing_refuses_what_it_cannot_read() {
+    fails(run(&["compare", "/dev/null"]), "", "the trace is empty");
+    fails(run(&["compare", "no/such/file"]), "", "no/such/file");
+    fails(
+        run(&["compare", SAMPLE, "no/such/file"]),
+        "",
+        "no/such/file",
+    );
+    let directory = env!("CARGO_MANIFEST_DIR");
+    fails(run(&["compare", directory]), "", "can't read the trace");
+    fails(
+        run(&["compare", SAMPLE, directory]),
+        "",
+        "can't read the output",
+    );
+}
+
 #[test]
 fn a_closed_output_ends_it_quietly() {
     let generate: [&str; 4] = ["generate", "exhaustive", "--length", "4"];
@@ -91,12 +155,15 @@ fn a_closed_output_ends_it_quietly() {
 
 #[test]
 fn a_wrong_command_line_gets_the_usage() {
-    let commands: [&[&str]; 12] = [
+    let commands: [&[&str]; 15] = [
         &[],
         &["reply"],
         &["generate"],
         &["replay", "--stat"],
         &["replay", "one", "two"],
+        &["compare"],
+        &["compare", "one", "two", "three"],
+        &["compare", "--state", "one"],
         &["generate", "random", "--seed", "1"],
         &["generate", "random", "--seed", "x", "--records", "1"],
         &["generate", "random", "--seed"],

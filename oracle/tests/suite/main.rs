@@ -1,6 +1,8 @@
 //! The oracle's own tests.
 
 mod binary;
+mod compare;
+mod differences;
 mod files;
 mod generators;
 mod marks;
@@ -10,3 +12,4 @@ mod records;
 mod sample;
 mod source;
 mod sweeps;
+mod walk;
