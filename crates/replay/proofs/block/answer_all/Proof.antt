@@ -1,0 +1,80 @@
+-- The output has room for the lines of one record more after each. Assumes nothing.
+use Prim.Native.Nat.{_-_, _*_, _≤_}
+use lib.ListN.{length}
+use native.Mathlib.Omega.{arith}
+use borrow.Author.Needs.{needs}
+use Rattle.replay.proofs.block.answer_all.Statement.{statement}
+use Rattle.replay.proofs.block.answer_all.Tie as tie
+
+abbrev Inv-loop : tie.InvT-loop
+Inv-loop block count slots₀ by-key₀ by-handle₀ marks₀ list₀ out₀ states left₀ at₀ i₀ slots by-key by-handle marks list out left at i = (i ≤ count) × (32 * count ≤ length block) × (at ≤ 123000)
+
+abbrev μ-loop : tie.MeasureT-loop
+μ-loop block count slots₀ by-key₀ by-handle₀ marks₀ list₀ out₀ states left₀ at₀ i₀ slots by-key by-handle marks list out left at i = count - i
+
+loop-holds : tie.Need-loop-holds Inv-loop μ-loop
+loop-holds c = search needs
+
+mul-from : tie.Need-mul-from Inv-loop μ-loop
+mul-from c = search needs
+
+add-end : tie.Need-add-end Inv-loop μ-loop
+add-end c = search needs
+
+next-place-requires : tie.Need-next-place-requires Inv-loop μ-loop
+next-place-requires c κs = search needs
+
+returns : tie.Need-returns Inv-loop μ-loop
+returns c = search needs
+
+sub-apply : tie.Need-sub-apply Inv-loop μ-loop
+sub-apply c = search needs
+
+part-apply-start : tie.Need-part-apply-start Inv-loop μ-loop
+part-apply-start c = search needs
+
+part-apply-end : tie.Need-part-apply-end Inv-loop μ-loop
+part-apply-end c = search needs
+
+apply-requires : tie.Need-apply-requires Inv-loop μ-loop
+apply-requires c κs = search needs
+
+put-lines-requires : tie.Need-put-lines-requires Inv-loop μ-loop
+put-lines-requires c κs = search needs
+
+add-i : tie.Need-add-i Inv-loop μ-loop
+add-i c = omega (arith, c .before .before .before .before .before .before .before .before .before .before .before .before .before .before .before .before .before .before .before .loop-test .taken, (c .before .before .before .before .before .before .before .before .before .before .before .before .before .before .before .before .before .before .before .before .before .before))
+
+loop-less : tie.Need-loop-less Inv-loop μ-loop
+loop-less c = omega (arith, c .before .before .before .before .before .before .before .before .before .before .before .before .before .before .before .before .before .before .before .loop-test .taken)
+
+loop-again : tie.Need-loop-again Inv-loop μ-loop
+loop-again c = (
+  omega (arith, c .before .before .before .before .before .before .before .before .before .before .before .before .before .before .before .before .before .before .before .loop-test .taken),
+  c .before .before .before .before .before .before .before .before .before .before .before .before .before .before .before .before .before .before .before .before .loop .inv .1,
+  omega (arith, c .put-lines .ensures, c .before .before .before .before .before .before .before .before .before .before .before .before .before .before .before .before .before .next-place .ensures),
+)
+
+returns-2 : tie.Need-returns-2 Inv-loop μ-loop
+returns-2 c = search needs
+
+pub answer-all-spec : {M : Type 1} → statement M
+answer-all-spec =
+    tie.close
+    (tie.spec
+    Inv-loop
+    μ-loop
+    loop-holds
+    mul-from
+    add-end
+    next-place-requires
+    returns
+    sub-apply
+    part-apply-start
+    part-apply-end
+    apply-requires
+    put-lines-requires
+    add-i
+    loop-less
+    loop-again
+    returns-2)

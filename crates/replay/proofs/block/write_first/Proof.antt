@@ -1,0 +1,23 @@
+-- As many bytes as there are. Assumes nothing.
+use Prim.Native.Nat.{_-_}
+use lib.ListN.{length-take}
+use native.Mathlib.Omega.{arith}
+use borrow.Author.Needs.{needs}
+use Rattle.replay.proofs.block.write_first.Statement.{statement}
+use Rattle.replay.proofs.block.write_first.Tie as tie
+
+returns : tie.Need-returns
+returns c = search needs
+
+slice-aggregate-write-all : tie.Need-slice-aggregate-write-all
+slice-aggregate-write-all c = simp length-take (omega arith)
+
+write-all-requires : tie.Need-write-all-requires
+write-all-requires c κs = search needs
+
+returns-2 : tie.Need-returns-2
+returns-2 c = search needs
+
+pub write-first-spec : {M : Type 1} → statement M
+write-first-spec =
+    tie.close (tie.spec returns slice-aggregate-write-all write-all-requires returns-2)

@@ -1,0 +1,50 @@
+-- Each block uses up a turn. Assumes nothing.
+use Prim.Native.Nat.{_-_}
+use borrow.Author.Needs.{needs}
+use Rattle.replay.proofs.replay.Statement.{statement}
+use Rattle.replay.proofs.replay.Tie as tie
+
+abbrev Inv-loop : tie.InvT-loop
+Inv-loop states slots₀ by-key₀ by-handle₀ marks₀ list₀ out₀ head₀ turns₀ slots by-key by-handle marks list out head turns = Unit
+
+abbrev μ-loop : tie.MeasureT-loop
+μ-loop states slots₀ by-key₀ by-handle₀ marks₀ list₀ out₀ head₀ turns₀ slots by-key by-handle marks list out head turns = turns
+
+no-cache-requires : tie.Need-no-cache-requires Inv-loop μ-loop
+no-cache-requires c κs = search needs
+
+loop-holds : tie.Need-loop-holds Inv-loop μ-loop
+loop-holds c = search needs
+
+replay-requires : tie.Need-replay-requires Inv-loop μ-loop
+replay-requires c κs = search needs
+
+returns : tie.Need-returns Inv-loop μ-loop
+returns c = search needs
+
+sub-turns : tie.Need-sub-turns Inv-loop μ-loop
+sub-turns c = search needs
+
+loop-less : tie.Need-loop-less Inv-loop μ-loop
+loop-less c = search needs
+
+loop-again : tie.Need-loop-again Inv-loop μ-loop
+loop-again c = search needs
+
+returns-2 : tie.Need-returns-2 Inv-loop μ-loop
+returns-2 c = search needs
+
+pub replay-spec : {M : Type 1} → statement M
+replay-spec =
+    tie.close
+    (tie.spec
+    Inv-loop
+    μ-loop
+    no-cache-requires
+    loop-holds
+    replay-requires
+    returns
+    sub-turns
+    loop-less
+    loop-again
+    returns-2)
