@@ -1,0 +1,54 @@
+-- Whatever the record asks for, sound memory stays sound. Assumes nothing.
+use borrow.Author.Needs.{needs}
+use Rattle.bench_calls.proofs.Running.{ran-sound}
+use Rattle.bench_calls.proofs.run_one.Statement.{statement}
+use Rattle.bench_calls.proofs.run_one.Tie as tie
+
+decode-requires : tie.Need-decode-requires
+decode-requires c κs = search needs
+
+enum-known-asked : tie.Need-enum-known-asked
+enum-known-asked c = search needs
+
+enum-told : tie.Need-enum-told
+enum-told c = search needs
+
+returns : tie.Need-returns
+returns c = c .before .before .before .before .before .before .before .before .before .pre
+
+dispatch-requires : tie.Need-dispatch-requires
+dispatch-requires c κs = record { sound = λ _ _. c .before .before .before .before .before .before .before .before .before .before .before .before .before .before .before .pre }
+
+same-length : tie.Need-same-length
+same-length c = search needs
+
+same-length-2 : tie.Need-same-length-2
+same-length-2 c = search needs
+
+same-length-3 : tie.Need-same-length-3
+same-length-3 c = search needs
+
+same-length-4 : tie.Need-same-length-4
+same-length-4 c = search needs
+
+same-length-5 : tie.Need-same-length-5
+same-length-5 c = search needs
+
+returns-2 : tie.Need-returns-2
+returns-2 c = ran-sound _ _ _ _ _ (c .before .before .before .before .before .before .before .before .before .before .before .before .before .before .before .before .before .before .before .before .before .before .before .before .before .before .before .pre) (c .before .before .before .before .before .before .before .before .before .before .before .dispatch .ensures)
+
+pub run-one-spec : {M : Type 1} → statement M
+run-one-spec =
+    tie.close
+    (tie.spec
+    decode-requires
+    enum-known-asked
+    enum-told
+    returns
+    dispatch-requires
+    same-length
+    same-length-2
+    same-length-3
+    same-length-4
+    same-length-5
+    returns-2)

@@ -1,0 +1,4 @@
+pub mod Numbers
+pub mod Exporting
+pub mod Same
+pub mod Hand

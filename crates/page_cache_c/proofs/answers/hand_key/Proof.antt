@@ -1,0 +1,26 @@
+-- Each return is after the tests that its answer follows from. Assumes nothing.
+use borrow.Author.Needs.{needs}
+use Rattle.page_cache_c.proofs.Numbers.{nothing-held, no-slot, a-slot, quarter}
+use Rattle.page_cache_c.proofs.answers.hand_key.Statement.{statement}
+use Rattle.page_cache_c.proofs.answers.hand_key.Tie as tie
+
+returns : tie.Need-returns
+returns c = nothing-held (c .before .before .before .before .args .slots .now) (c .before .before .before .before .args .head) (c .if1 .taken)
+
+cast-if2 : tie.Need-cast-if2
+cast-if2 c = search needs
+
+returns-2 : tie.Need-returns-2
+returns-2 c = no-slot (c .before .before .before .before .before .before .args .slots .now) (c .before .before .before .before .before .before .args .head) (c .before .before .if1 .left) (c .if2 .taken)
+
+load-requires : tie.Need-load-requires
+load-requires c κs = quarter (c .before .before .before .before .before .before .args .slots .now) (c .before .before .before .before .before .before .args .head .hand .0) (c .if2 .left)
+
+cast-result : tie.Need-cast-result
+cast-result c = search needs
+
+returns-3 : tie.Need-returns-3
+returns-3 c = a-slot (c .before .before .before .before .before .before .before .before .before .args .slots .now) (c .before .before .before .before .before .before .before .before .before .args .head) (c .before .before .before .before .before .if1 .left) (c .before .before .before .if2 .left) (c .before .before .load .ensures)
+
+pub hand-key-spec : {M : Type 1} → statement M
+hand-key-spec = tie.close (tie.spec returns cast-if2 returns-2 load-requires cast-result returns-3)

@@ -1,0 +1,63 @@
+-- The numbers are read only if they fit. Assumes nothing.
+use native.Mathlib.Omega.{arith}
+use borrow.Author.Needs.{needs}
+use Rattle.page_cache_c.proofs.Numbers.{within, read-none, read-fields}
+use Rattle.page_cache_c.proofs.heads.read.Statement.{statement}
+use Rattle.page_cache_c.proofs.heads.read.Tie as tie
+
+fit-requires : tie.Need-fit-requires
+fit-requires c κs = search needs
+
+returns : tie.Need-returns
+returns c = read-none (c .before .before .before .args .head .now) (c .before .fit .ensures) (c .if1 .taken)
+
+shared-slice-read-t6 : tie.Need-shared-slice-read-t6
+shared-slice-read-t6 c = search needs
+
+cast-t7 : tie.Need-cast-t7
+cast-t7 c = omega (arith, within (c .before .before .before .before .args .head .now) (c .before .before .fit .ensures) (c .before .if1 .left) .capacity)
+
+shared-slice-read-t9 : tie.Need-shared-slice-read-t9
+shared-slice-read-t9 c = search needs
+
+cast-t10 : tie.Need-cast-t10
+cast-t10 c = omega (arith, within (c .before .before .before .before .before .args .head .now) (c .before .before .before .fit .ensures) (c .before .before .if1 .left) .held)
+
+shared-slice-read-t12 : tie.Need-shared-slice-read-t12
+shared-slice-read-t12 c = search needs
+
+cast-t13 : tie.Need-cast-t13
+cast-t13 c = omega (arith, within (c .before .before .before .before .before .before .args .head .now) (c .before .before .before .before .fit .ensures) (c .before .before .before .if1 .left) .hand)
+
+shared-slice-read-t16 : tie.Need-shared-slice-read-t16
+shared-slice-read-t16 c = search needs
+
+cast-t17 : tie.Need-cast-t17
+cast-t17 c = omega (arith, within (c .before .before .before .before .before .before .before .args .head .now) (c .before .before .before .before .before .fit .ensures) (c .before .before .before .before .if1 .left) .spill)
+
+shared-slice-read-t19 : tie.Need-shared-slice-read-t19
+shared-slice-read-t19 c = search needs
+
+cast-t20 : tie.Need-cast-t20
+cast-t20 c = omega (arith, within (c .before .before .before .before .before .before .before .before .args .head .now) (c .before .before .before .before .before .before .fit .ensures) (c .before .before .before .before .before .if1 .left) .estimate)
+
+returns-2 : tie.Need-returns-2
+returns-2 c = read-fields (c .before .before .before .before .before .before .before .before .args .head .now) (c .before .before .before .before .before .before .fit .ensures) (c .before .before .before .before .before .if1 .left)
+
+pub read-spec : {M : Type 1} → statement M
+read-spec =
+    tie.close
+    (tie.spec
+    fit-requires
+    returns
+    shared-slice-read-t6
+    cast-t7
+    shared-slice-read-t9
+    cast-t10
+    shared-slice-read-t12
+    cast-t13
+    shared-slice-read-t16
+    cast-t17
+    shared-slice-read-t19
+    cast-t20
+    returns-2)

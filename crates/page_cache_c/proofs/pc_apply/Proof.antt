@@ -1,0 +1,68 @@
+-- The bytes are applied with the head that was read, and head and answer are written as that says. Assumes nothing.
+use mathlib.Core.Path.{refl}
+use borrow.Author.Needs.{needs}
+use Rattle.page_cache_c.specs.Exports.{unapplied}
+use Rattle.page_cache_c.proofs.Exporting.{applies-read}
+use Rattle.page_cache_c.proofs.pc_apply.Statement.{statement}
+use Rattle.page_cache_c.proofs.pc_apply.Tie as tie
+
+returns : tie.Need-returns
+returns c = unapplied (λ fit. c .if1 .taken (fit .head)) refl refl refl refl
+
+returns-2 : tie.Need-returns-2
+returns-2 c = unapplied (λ fit. c .if2 .taken (fit .answer)) refl refl refl refl
+
+read-requires : tie.Need-read-requires
+read-requires c κs = search needs
+
+apply-requires : tie.Need-apply-requires
+apply-requires c κs = search needs
+
+put-answered-requires : tie.Need-put-answered-requires
+put-answered-requires c κs = search needs
+
+put-requires : tie.Need-put-requires
+put-requires c κs = search needs
+
+same-length : tie.Need-same-length
+same-length c = search needs
+
+same-length-2 : tie.Need-same-length-2
+same-length-2 c = search needs
+
+same-length-3 : tie.Need-same-length-3
+same-length-3 c = search needs
+
+same-length-4 : tie.Need-same-length-4
+same-length-4 c = search needs
+
+same-length-5 : tie.Need-same-length-5
+same-length-5 c = search needs
+
+same-length-6 : tie.Need-same-length-6
+same-length-6 c = search needs
+
+same-length-7 : tie.Need-same-length-7
+same-length-7 c = search needs
+
+returns-3 : tie.Need-returns-3
+returns-3 c = applies-read (c .before .before .before .before .before .before .before .before .before .before .before .before .before .before .before .before .before .before .before .before .before .before .before .before .before .before .before .before .if1 .left) (c .before .before .before .before .before .before .before .before .before .before .before .before .before .before .before .before .before .before .before .before .before .before .before .before .before .before .before .if2 .left) (c .before .before .before .before .before .before .before .before .before .before .before .before .before .before .before .before .before .before .before .before .read .ensures) (c .before .before .before .before .before .before .before .before .before .before .before .before .before .before .before .before .before .before .before .apply .ensures) (c .before .before .before .before .before .before .before .put-answered .ensures) (c .before .before .put .ensures)
+
+pub pc-apply-spec : {M : Type 1} → statement M
+pc-apply-spec =
+    tie.close
+    (tie.spec
+    returns
+    returns-2
+    read-requires
+    apply-requires
+    put-answered-requires
+    put-requires
+    same-length
+    same-length-2
+    same-length-3
+    same-length-4
+    same-length-5
+    same-length-6
+    same-length-7
+    returns-3)

@@ -1,0 +1,37 @@
+-- The listing comes to what it says with the head that was read. Assumes nothing.
+use mathlib.Core.Path.{refl}
+use borrow.Author.Needs.{needs}
+use Rattle.page_cache_c.specs.Exports.{unlisted}
+use Rattle.page_cache_c.proofs.Exporting.{lists-read}
+use Rattle.page_cache_c.specs.Exports.{unlisted}
+use Rattle.page_cache_c.proofs.pc_list.Statement.{statement}
+use Rattle.page_cache_c.proofs.pc_list.Tie as tie
+
+returns : tie.Need-returns
+returns c = unlisted (c .if1 .taken) refl refl
+
+read-requires : tie.Need-read-requires
+read-requires c κs = search needs
+
+list-numbers-requires : tie.Need-list-numbers-requires
+list-numbers-requires c κs = search needs
+
+listing-code-requires : tie.Need-listing-code-requires
+listing-code-requires c κs = search needs
+
+same-length : tie.Need-same-length
+same-length c = search needs
+
+returns-2 : tie.Need-returns-2
+returns-2 c = lists-read (c .before .before .before .before .before .before .if1 .left) (c .before .before .before .before .before .read .ensures) (c .before .before .before .list-numbers .ensures) (c .listing-code .ensures)
+
+pub pc-list-spec : {M : Type 1} → statement M
+pc-list-spec =
+    tie.close
+    (tie.spec
+    returns
+    read-requires
+    list-numbers-requires
+    listing-code-requires
+    same-length
+    returns-2)

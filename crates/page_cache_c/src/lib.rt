@@ -1,0 +1,127 @@
+// The cache for programs in C and Rust: the functions that the archive of this crate exports, on numbers and slices alone. They
+// ask nothing of what they are lent: any lengths and any contents get a defined answer, and a refusal alters nothing.
+//
+//     lib.rt       pc_create, pc_test, pc_list, pc_apply
+//     heads.rt     the head of a cache as five numbers
+//     answers.rt   an answer as six numbers
+//
+// Each is one call of a proved function that takes any memory, with the head read before it and written after it. There are no
+// rules here. Callers may rely on specs/Exports.antt. Each function answers with document 01's code. A head or an answer of
+// another length than it has to have is 16, whatever is called, and nothing is looked at. Numbers that are no head are read as
+// one that makes the memory unsound, so that a call answers 1 and a creation can still be made.
+mod answers;
+mod heads;
+
+use apply::apply;
+use creating::create;
+pub use heads::put;
+pub use heads::read;
+use soundness::is_sound;
+ghost use Rattle.memory.specs.Memory.{memories};
+ghost use Rattle.contract.specs.Called.{lent};
+ghost use Rattle.page_cache_c.specs.Exports.{Makes, Tests, Lists, Applies};
+
+// The numbers of a head: capacity, held, hand, spill switch, estimate.
+const HEAD: usize = 5;
+
+// The numbers of an answer: code, value, passed, held, the hand's key or none, listed.
+const ANSWER: usize = 6;
+
+const SOUND: u32 = 0;
+
+const NOT_SOUND: u32 = 1;
+
+// A head or an answer has another length.
+const BAD_LENGTHS: u32 = 16;
+
+// Makes a cache of any memory, and its head.
+#[no_mangle]
+pub extern "C" fn pc_create(
+    slots: &mut [u64],
+    by_key: &mut [u32],
+    by_handle: &mut [u32],
+    marks: &mut [u64],
+    head: &mut [u64],
+    capacity: u64,
+) -> u32
+    ensures { λ r. let m = memories slots «by_key» «by_handle» marks in ⌜ Makes capacity (m .entry) (now (head .entry)) (m .exit) (now (head .exit)) r ⌝ }
+{
+    if head.len() != HEAD {
+        return BAD_LENGTHS;
+    }
+    let made = create(slots, by_key, by_handle, marks, capacity);
+    heads::put_created(head, made)
+}
+
+// Whether the memory is sound: 0 if it is, 1 if not.
+#[no_mangle]
+pub extern "C" fn pc_test(
+    slots: &[u64],
+    by_key: &[u32],
+    by_handle: &[u32],
+    marks: &[u64],
+    head: &[u64],
+) -> u32
+    ensures { λ r. let m = memories slots «by_key» «by_handle» marks in ⌜ Tests (m .entry) (now (head .entry)) r ⌝ }
+{
+    if head.len() != HEAD {
+        return BAD_LENGTHS;
+    }
+    if is_sound(slots, by_key, by_handle, marks, heads::read(head)) {
+        SOUND
+    } else {
+        NOT_SOUND
+    }
+}
+
+// Lists the held pages in sweep order, eight numbers to a page. There are as many as the head says that are held.
+#[no_mangle]
+pub extern "C" fn pc_list(
+    slots: &[u64],
+    by_key: &[u32],
+    by_handle: &[u32],
+    marks: &[u64],
+    head: &[u64],
+    list: &mut [u64],
+) -> u32
+    ensures { λ r. let m = memories slots «by_key» «by_handle» marks in ⌜ Lists (m .entry) (now (head .entry)) (now (list .entry)) (now (list .exit)) r ⌝ }
+{
+    if head.len() != HEAD {
+        return BAD_LENGTHS;
+    }
+    let listed = listing::list_numbers(slots, by_key, by_handle, marks, heads::read(head), list);
+    answers::listing_code(listed)
+}
+
+// Carries out what 32 bytes ask for. The answer's numbers are written, and its code is handed back too.
+#[no_mangle]
+pub extern "C" fn pc_apply(
+    slots: &mut [u64],
+    by_key: &mut [u32],
+    by_handle: &mut [u32],
+    marks: &mut [u64],
+    head: &mut [u64],
+    list: &mut [u32],
+    bytes: &[u8],
+    answer: &mut [u64],
+) -> u32
+    ensures { λ r. let m = memories slots «by_key» «by_handle» marks in ⌜ Applies (now (bytes .entry)) (lent (m .entry) (now (list .entry))) (now (head .entry)) (now (answer .entry)) (lent (m .exit) (now (list .exit))) (now (head .exit)) (now (answer .exit)) r ⌝ }
+{
+    if head.len() != HEAD {
+        return BAD_LENGTHS;
+    }
+    if answer.len() != ANSWER {
+        return BAD_LENGTHS;
+    }
+    let answered = apply(
+        bytes,
+        slots,
+        by_key,
+        by_handle,
+        marks,
+        list,
+        heads::read(head),
+    );
+    heads::put_answered(head, answered);
+    answers::put(answer, slots, answered)
+}

@@ -1,0 +1,123 @@
+//! The calls that are measured, made before they are timed.
+use page_cache::{Page, PageCache, Record};
+
+/// What a load consists of.
+#[derive(Clone, Copy, PartialEq, Eq)]
+pub enum Shape {
+    /// Lookups of held pages in a full cache.
+    Lookup,
+    /// Insertions into an empty cache until it is full, keys in random order.
+    InsertRoom,
+    /// Insertions of new keys into a full cache; each evicts one page that was never used.
+    InsertEvict,
+    /// Deletions of every page of a full cache, keys in random order.
+    Delete,
+    /// Insertions into a full cache of dirty pages: each is a sweep of four rounds that takes none.
+    Look,
+    /// Lookups over a quarter more keys than fit, each miss followed by an insertion, and a deletion in twenty calls.
+    Mixed,
+}
+
+impl Shape {
+    pub const ALL: [Shape; 6] =
+        [Shape::Lookup, Shape::InsertRoom, Shape::InsertEvict, Shape::Delete, Shape::Look, Shape::Mixed];
+
+    fn name(self) -> &'static str {
+        match self {
+            Shape::Lookup => "lookup, hit",
+            Shape::InsertRoom => "insert with room",
+            Shape::InsertEvict => "insert with eviction",
+            Shape::Delete => "delete",
+            Shape::Look => "one look of a sweep",
+            Shape::Mixed => "mixed",
+        }
+    }
+}
+
+pub struct Load {
+    pub name: &'static str,
+    /// The pages held before the calls, in the order of their insertion.
+    pub held: Vec<Record>,
+    pub calls: Vec<Record>,
+    /// How many looks a call is; 1 for all loads but one.
+    pub looks: usize,
+}
+
+pub const INSERT: u8 = 1;
+pub const GET: u8 = 4;
+pub const DELETE: u8 = 6;
+
+/// Xorshift, the same in each run.
+struct Chance(u64);
+
+impl Chance {
+    fn below(&mut self, n: usize) -> usize {
+        self.0 ^= self.0 << 13;
+        self.0 ^= self.0 >> 7;
+        self.0 ^= self.0 << 17;
+        (self.0.wrapping_mul(0x2545_f491_4f6c_dd1d) >> 33) as usize % n
+    }
+
+    fn shuffled(&mut self, mut keys: Vec<u32>) -> Vec<u32> {
+        for i in (1..keys.len()).rev() {
+            keys.swap(i, self.below(i + 1));
+        }
+        keys
+    }
+}
+
+fn insertion(key: u32, flags: u8) -> Record {
+    Record { operation: INSERT, key, handle: key, page: Page::with(flags), option: false }
+}
+
+fn by_key(operation: u8, key: u32) -> Record {
+    Record { operation, key, ..Record::default() }
+}
+
+/// The calls of the mixed load. A cache tells which lookups miss: the Rust asserts if a key comes again with another page.
+fn mixed(chance: &mut Chance, pages: usize, held: &[Record]) -> Vec<Record> {
+    let mut cache = PageCache::new(pages, pages as u64).expect("a pool");
+    for record in held {
+        cache.apply(&record.bytes());
+    }
+    let mut calls = Vec::new();
+    while calls.len() < 20_000 {
+        let key = 2 + chance.below(pages + pages / 4) as u32;
+        calls.push(by_key(if chance.below(20) == 0 { DELETE } else { GET }, key));
+        if cache.apply(&calls[calls.len() - 1].bytes()).code == 4 {
+            calls.push(insertion(key, Page::LOADED));
+            cache.apply(&calls[calls.len() - 1].bytes());
+        }
+    }
+    calls
+}
+
+impl Load {
+    pub fn new(shape: Shape, pages: usize) -> Self {
+        let mut chance = Chance(0x9e37_79b9_7f4a_7c15);
+        let n = pages as u32;
+        // keys from 2 on: page 1 never goes
+        let keys = chance.shuffled((2..n + 2).collect());
+        let loaded = Page::LOADED;
+        let fill = |flags| keys.iter().map(|&key| insertion(key, flags)).collect::<Vec<_>>();
+        let (held, calls) = match shape {
+            Shape::Lookup => (fill(loaded), (0..20_000).map(|_| by_key(GET, 2 + chance.below(pages) as u32)).collect()),
+            Shape::InsertRoom => (Vec::new(), fill(loaded)),
+            Shape::InsertEvict => (fill(loaded), (0..10_000).map(|i| insertion(n + 2 + i, loaded)).collect()),
+            Shape::Delete => (fill(loaded), chance.shuffled(keys.clone()).into_iter().map(|key| by_key(DELETE, key)).collect()),
+            Shape::Look => (fill(loaded | Page::DIRTY), (0..20).map(|i| insertion(n + 2 + i, loaded)).collect()),
+            Shape::Mixed => (fill(loaded), mixed(&mut chance, pages, &fill(loaded))),
+        };
+        Load { name: shape.name(), held, calls, looks: if shape == Shape::Look { 4 * pages } else { 1 } }
+    }
+
+    /// How many of what is counted the calls are.
+    pub fn steps(&self) -> usize {
+        self.calls.len() * self.looks
+    }
+
+    /// The calls as replay records.
+    pub fn bytes(&self) -> Vec<u8> {
+        self.calls.iter().flat_map(|record| record.bytes()).collect()
+    }
+}

@@ -1,0 +1,206 @@
+/* The proved page cache, for C. Link target/staticlib/libpage_cache_c.a, which tools/library makes (x86-64 Linux).
+ *
+ * The four functions are total: any lengths and any contents of what they are lent get a defined answer, and a refusal alters
+ * nothing. What each does, to the last word, is its contract in crates/page_cache_c/specs/Exports.antt, and it is proved.
+ *
+ * What C has to see to, since no proof can: a pointer is not null and has as many elements behind it as the length beside it
+ * says, and two things that are lent to one call don't overlap.
+ *
+ * A pool of S slots is four arrays and a head:
+ *
+ *     uint64_t slots[PC_SLOT_WORDS(S)];       four words to a slot
+ *     uint32_t by_key[PC_INDEX_PLACES(S)];    held slots by ascending key
+ *     uint32_t by_handle[PC_INDEX_PLACES(S)]; held slots by ascending handle
+ *     uint64_t marks[PC_MARK_WORDS(S)];       a bit for each free slot
+ *     uint64_t head[PC_HEAD_NUMBERS];         capacity, held, hand, spill switch, estimate
+ *
+ * A call is lent a list for handles too. A list of S places is always long enough. */
+#ifndef PAGE_CACHE_H
+#define PAGE_CACHE_H
+
+#include <stddef.h>
+#include <stdint.h>
+
+#ifdef __cplusplus
+extern "C" {
+#endif
+
+/* ---- sizes ---- */
+
+#define PC_MAX_SLOTS 4096
+#define PC_SLOT_WORDS(S) (4 * (S))
+#define PC_INDEX_PLACES(S) (S)
+#define PC_MARK_WORDS(S) (((S) + 63) / 64)
+#define PC_HEAD_NUMBERS 5
+#define PC_RECORD_BYTES 32
+#define PC_ANSWER_NUMBERS 6
+/* The numbers that pc_list writes to a page. */
+#define PC_PAGE_NUMBERS 8
+
+/* The hand's key in an answer if nothing is held. */
+#define PC_NO_KEY UINT64_C(4294967296)
+
+/* ---- answer codes ---- */
+
+enum pc_code {
+    PC_DONE = 0,              /* done */
+    PC_NOT_SOUND = 1,         /* the memory is not sound; nothing is altered */
+    PC_BAD_RECORD = 2,        /* flags above 31 */
+    PC_SHORT_LIST = 3,        /* the list is shorter than the pages held */
+    PC_ABSENT = 4,            /* the key is absent */
+    PC_LOCKED = 5,            /* locked; the value is the key */
+    PC_DIRTY = 6,             /* dirty; the value is the key */
+    PC_PINNED = 7,            /* pinned; the value is the key */
+    PC_FULL = 8,              /* no page may go, or the capacity is 0; evictions stand */
+    PC_KEY_EXISTS = 9,        /* the key is there with the same handle; it was touched */
+    PC_PENDING_EVICTIONS = 10, /* a resize is pending: more pages are held than the new capacity, and none may go */
+    PC_OTHER_PAGE = 11,       /* the key is there with another handle */
+    PC_HANDLE_ELSEWHERE = 12, /* the handle stands under another key */
+    PC_NO_SLOT = 13,          /* every slot is taken */
+    PC_EMPTY = 14,            /* one eviction was asked for, and nothing is held */
+    PC_TOO_LARGE = 15,        /* the capacity is above the slots */
+    PC_BAD_LENGTHS = 16,      /* creation: wrong lengths; any function: the head or the answer has a wrong length */
+    PC_BAD_REPLAY = 17,       /* the bytes are no record */
+    PC_NOT_NEEDED = 18,       /* no spill is needed */
+    PC_NONE_SELECTED = 19     /* a spill is needed, and no page was selected */
+};
+
+/* ---- records ---- */
+
+enum pc_operation {
+    PC_OP_CREATE = 0,         /* number: capacity */
+    PC_OP_INSERT = 1,         /* key, handle, page */
+    PC_OP_FORCE_INSERT = 2,   /* key, handle, page */
+    PC_OP_FORCE_UPSERT = 3,   /* key, handle, page */
+    PC_OP_GET = 4,            /* key */
+    PC_OP_PEEK = 5,           /* key; option: touch */
+    PC_OP_DELETE = 6,         /* key */
+    PC_OP_RESIZE = 7,         /* number: capacity */
+    PC_OP_TRUNCATE = 8,       /* number: keys above it go */
+    PC_OP_REMOVE_FRAMES = 9,  /* number: clean tagged pages with a frame above it go */
+    PC_OP_CLEAR = 10,         /* option: dirty pages too */
+    PC_OP_NOTIFY_DIRTY = 11,  /* key */
+    PC_OP_NOTIFY_SPILLED = 12, /* key */
+    PC_OP_WRITE_RECORD = 13,  /* key, page */
+    PC_OP_CHECK_SPILL = 14,   /* number: most pages to select */
+    PC_OP_EVICT_ONE = 15,
+    PC_OP_SET_SPILL = 16      /* option: on */
+};
+
+enum pc_flag { PC_FLAG_LOADED = 1, PC_FLAG_LOCKED = 2, PC_FLAG_DIRTY = 4, PC_FLAG_SPILLED = 8, PC_FLAG_TAGGED = 16 };
+
+/* What a record says. A call's page is flags, pins, holders, cells and, as number, its frame. Fields that a call does not use are
+ * not looked at; the option is 0 or 1 for every call. */
+struct pc_record {
+    uint8_t operation;
+    uint8_t flags;
+    uint16_t pins;
+    uint32_t key;
+    uint32_t handle;
+    uint16_t holders;
+    uint8_t cells;
+    uint8_t option;
+    uint64_t number;
+};
+
+/* The places of an answer. */
+enum pc_answer {
+    PC_ANSWER_CODE = 0,
+    PC_ANSWER_VALUE = 1,      /* found or replaced handle, refusing key, number selected, else 0 */
+    PC_ANSWER_PASSED = 2,     /* pages that sweeps passed */
+    PC_ANSWER_HELD = 3,       /* pages held after the call */
+    PC_ANSWER_HAND = 4,       /* the hand's key after the call, or PC_NO_KEY */
+    PC_ANSWER_LISTED = 5      /* handles in the first places of the list */
+};
+
+/* ---- the proved functions ---- */
+
+/* Makes a cache of any memory: every lent word and the head are set. PC_DONE; or PC_BAD_LENGTHS or PC_TOO_LARGE, and nothing is
+ * altered. */
+uint32_t pc_create(uint64_t *slots, size_t slots_length, uint32_t *by_key, size_t by_key_length, uint32_t *by_handle,
+                   size_t by_handle_length, uint64_t *marks, size_t marks_length, uint64_t *head, size_t head_length,
+                   uint64_t capacity);
+
+/* Whether the memory is sound: PC_DONE if it is, PC_NOT_SOUND if it is not, PC_BAD_LENGTHS if the head has a wrong length. Alters
+ * nothing. */
+uint32_t pc_test(const uint64_t *slots, size_t slots_length, const uint32_t *by_key, size_t by_key_length,
+                 const uint32_t *by_handle, size_t by_handle_length, const uint64_t *marks, size_t marks_length,
+                 const uint64_t *head, size_t head_length);
+
+/* Lists the held pages in sweep order from the hand, PC_PAGE_NUMBERS to each: key, handle, flags, pins, holders, cells, frame, use
+ * count. The head says how many are held; places past them keep their values. PC_DONE; or PC_NOT_SOUND, PC_SHORT_LIST or
+ * PC_BAD_LENGTHS, and the list stays as it was. */
+uint32_t pc_list(const uint64_t *slots, size_t slots_length, const uint32_t *by_key, size_t by_key_length,
+                 const uint32_t *by_handle, size_t by_handle_length, const uint64_t *marks, size_t marks_length,
+                 const uint64_t *head, size_t head_length, uint64_t *list, size_t list_length);
+
+/* Carries out a record of PC_RECORD_BYTES bytes: tests the memory, refuses or does what the rules say, sets the head, and writes the
+ * answer, whose code is returned too. Handles that were removed, or selected for a spill, go to the first places of the list; other
+ * places keep their values. If the head or the answer has a wrong length it returns PC_BAD_LENGTHS and looks at nothing. */
+uint32_t pc_apply(uint64_t *slots, size_t slots_length, uint32_t *by_key, size_t by_key_length, uint32_t *by_handle,
+                  size_t by_handle_length, uint64_t *marks, size_t marks_length, uint64_t *head, size_t head_length, uint32_t *list,
+                  size_t list_length, const uint8_t *record, size_t record_length, uint64_t *answer, size_t answer_length);
+
+/* ---- for convenience: not proved, and no rules of their own ---- */
+
+/* A pool's arrays, and the list that its calls are lent. */
+struct pc_pool {
+    uint64_t *slots;
+    uint32_t *by_key;
+    uint32_t *by_handle;
+    uint64_t *marks;
+    uint32_t *list;
+    size_t size;
+    uint64_t head[PC_HEAD_NUMBERS];
+};
+
+/* Static arrays for a pool of S slots, and the pool. */
+#define PC_STATIC_POOL(name, S)                                                                                                   \
+    static uint64_t name##_slots[PC_SLOT_WORDS(S)], name##_marks[PC_MARK_WORDS(S)];                                                \
+    static uint32_t name##_by_key[PC_INDEX_PLACES(S)], name##_by_handle[PC_INDEX_PLACES(S)], name##_list[S];                       \
+    static struct pc_pool name = {name##_slots, name##_by_key, name##_by_handle, name##_marks, name##_list, (S), {0}}
+
+/* The bytes of a record, little-endian. */
+static inline void pc_pack(uint8_t bytes[PC_RECORD_BYTES], const struct pc_record *r)
+{
+    const uint64_t words[4] = {
+        r->operation | (uint64_t)r->flags << 8 | (uint64_t)r->pins << 16 | (uint64_t)r->key << 32,
+        r->handle | (uint64_t)r->holders << 32 | (uint64_t)r->cells << 48 | (uint64_t)r->option << 56,
+        r->number,
+        0,
+    };
+    for (size_t i = 0; i < PC_RECORD_BYTES; i++)
+        bytes[i] = (uint8_t)(words[i / 8] >> (i % 8 * 8));
+}
+
+static inline uint32_t pc_pool_create(struct pc_pool *p, uint64_t capacity)
+{
+    return pc_create(p->slots, PC_SLOT_WORDS(p->size), p->by_key, p->size, p->by_handle, p->size, p->marks, PC_MARK_WORDS(p->size),
+                     p->head, PC_HEAD_NUMBERS, capacity);
+}
+
+static inline uint32_t pc_pool_test(const struct pc_pool *p)
+{
+    return pc_test(p->slots, PC_SLOT_WORDS(p->size), p->by_key, p->size, p->by_handle, p->size, p->marks, PC_MARK_WORDS(p->size),
+                   p->head, PC_HEAD_NUMBERS);
+}
+
+static inline uint32_t pc_pool_list(const struct pc_pool *p, uint64_t *list, size_t list_length)
+{
+    return pc_list(p->slots, PC_SLOT_WORDS(p->size), p->by_key, p->size, p->by_handle, p->size, p->marks, PC_MARK_WORDS(p->size),
+                   p->head, PC_HEAD_NUMBERS, list, list_length);
+}
+
+static inline uint32_t pc_pool_apply(struct pc_pool *p, const struct pc_record *r, uint64_t answer[PC_ANSWER_NUMBERS])
+{
+    uint8_t bytes[PC_RECORD_BYTES];
+    pc_pack(bytes, r);
+    return pc_apply(p->slots, PC_SLOT_WORDS(p->size), p->by_key, p->size, p->by_handle, p->size, p->marks, PC_MARK_WORDS(p->size),
+                    p->head, PC_HEAD_NUMBERS, p->list, p->size, bytes, PC_RECORD_BYTES, answer, PC_ANSWER_NUMBERS);
+}
+
+#ifdef __cplusplus
+}
+#endif
+
+#endif
