@@ -1,0 +1,121 @@
+-- A test for each fault, in order, and then the fields. Assumes nothing.
+use mathlib.Core.Path.{_≡_, sym, _∙_}
+use borrow.Author.Needs.{needs}
+use borrow.Author.Tests.{not-true, not-false}
+use Rattle.wal_checksum.specs.Checksum.{sumsAt, sameSums}
+use Rattle.wal_header.specs.Header.{isMagic, isPageSize, headerSums}
+use Rattle.wal_header.proofs.Opening.{tested, sums-compared, header-read, Known, Current, Sized, opened-length, opened-magic, opened-version, opened-page-size, opened-checksum, opened-log}
+use Rattle.wal_header.proofs.header.open.Statement.{statement}
+use Rattle.wal_header.proofs.header.open.Tie as tie
+
+-- what is known after each test that the header passed
+known : (c : tie.Else2) → Known (c .before .before .before .before .before .args .log .now)
+known c = record {
+  long = c .before .before .before .if1 .left;
+  magic = tested isMagic (c .before .is-magic .ensures) (c .before .before .number-at .ensures) (not-false _ (c .if2 .left));
+}
+
+current : (c : tie.Else3) → Current (c .before .before .before .before .before .before .before .args .log .now)
+current c = record { known = known (c .before .before); version = sym (c .before .number-at2 .ensures) ∙ c .if3 .left }
+
+sized : (c : tie.Else4) → Sized (c .before .before .before .before .before .before .before .before .before .before .args .log .now)
+sized c = record {
+  current = current (c .before .before .before);
+  size = tested isPageSize (c .before .is-page-size .ensures) (c .before .before .number-at3 .ensures) (not-false _ (c .if4 .left));
+}
+
+compared : (c : tie.After-same)
+    → c .same .result
+    ≡ sameSums (headerSums (c .before .before .before .before .before .before .before .before .before .before .before .before .before .args .log .now))
+    (sumsAt (c .before .before .before .before .before .before .before .before .before .before .before .before .before .args .log .now) 24)
+compared c =
+    let at-sums = c .before .before in
+    let at-magic = at-sums .before .before .before .before .before .before .before .before in
+    sums-compared _ (at-magic .number-at .ensures) (at-sums .checksum .ensures) (c .before .sums-at .ensures) (c .same .ensures)
+
+returns : tie.Need-returns
+returns c = opened-length _ (c .if1 .taken)
+
+number-at-requires : tie.Need-number-at-requires
+number-at-requires c κs = search needs
+
+is-magic-requires : tie.Need-is-magic-requires
+is-magic-requires c κs = search needs
+
+returns-2 : tie.Need-returns-2
+returns-2 c =
+    opened-magic _ (c .before .before .before .if1 .left)
+    (tested isMagic (c .before .is-magic .ensures) (c .before .before .number-at .ensures) (not-true _ (c .if2 .taken)))
+
+number-at-requires-2 : tie.Need-number-at-requires-2
+number-at-requires-2 c κs = search needs
+
+returns-3 : tie.Need-returns-3
+returns-3 c = opened-version _ (known (c .before .before)) (λ same. c .if3 .taken (c .before .number-at2 .ensures ∙ same))
+
+number-at-requires-3 : tie.Need-number-at-requires-3
+number-at-requires-3 c κs = search needs
+
+is-page-size-requires : tie.Need-is-page-size-requires
+is-page-size-requires c κs = search needs
+
+returns-4 : tie.Need-returns-4
+returns-4 c =
+    opened-page-size _ (current (c .before .before .before))
+    (tested isPageSize (c .before .is-page-size .ensures) (c .before .before .number-at3 .ensures) (not-true _ (c .if4 .taken)))
+
+checksum-requires : tie.Need-checksum-requires
+checksum-requires c κs = search needs
+
+sums-at-requires : tie.Need-sums-at-requires
+sums-at-requires c κs = search needs
+
+same-requires : tie.Need-same-requires
+same-requires c κs = search needs
+
+returns-5 : tie.Need-returns-5
+returns-5 c =
+    let at-same = c .before in
+    opened-checksum _ (sized (at-same .before .before .before)) (sym (compared at-same) ∙ not-true _ (c .if5 .taken))
+
+number-at-requires-4 : tie.Need-number-at-requires-4
+number-at-requires-4 c κs = search needs
+
+number-at-requires-5 : tie.Need-number-at-requires-5
+number-at-requires-5 c κs = search needs
+
+number-at-requires-6 : tie.Need-number-at-requires-6
+number-at-requires-6 c κs = search needs
+
+returns-6 : tie.Need-returns-6
+returns-6 c =
+    let at-if5 = c .before .before .before in
+    let at-same = at-if5 .before in
+    let at-sums = at-same .before .before in
+    let at-size = at-sums .before .before .before in
+    let at-magic = at-size .before .before .before .before .before in
+    opened-log _ (sized (at-sums .before)) (sym (compared at-same) ∙ not-false _ (at-if5 .if5 .left))
+    (header-read _ (at-magic .number-at .ensures) (at-sums .checksum .ensures) (at-size .number-at3 .ensures)
+    (c .before .before .number-at4 .ensures) (c .before .number-at5 .ensures) (c .number-at6 .ensures))
+
+pub open-spec : {M : Type 1} → statement M
+open-spec =
+    tie.close
+    (tie.spec
+    returns
+    number-at-requires
+    is-magic-requires
+    returns-2
+    number-at-requires-2
+    returns-3
+    number-at-requires-3
+    is-page-size-requires
+    returns-4
+    checksum-requires
+    sums-at-requires
+    same-requires
+    returns-5
+    number-at-requires-4
+    number-at-requires-5
+    number-at-requires-6
+    returns-6)
