@@ -1,0 +1,2 @@
+pub mod CutLog
+mod Turns
