@@ -2,10 +2,12 @@
 use crate::line::put_answer;
 use crate::sizes;
 use crate::state::put_state;
-use crate::text::ROOM;
-use crate::text::put;
 use answer::Answered;
 use page::PageCache;
+use text::ROOM;
+use text::next_place;
+use text::put_words;
+use text::write_first;
 ghost use Prim.Native.Nat.{_+_, _*_, _≤_};
 ghost use lib.ListN.{length};
 
@@ -14,20 +16,11 @@ const BLOCK: usize = 65536;
 
 const RECORD: usize = 32;
 
-// Above this the output is written out. An answer and a state take less than what is left.
-const FULL: usize = 100000;
-
 // What a block leaves.
 pub struct Left {
     pub head: PageCache,
     // Whether there may be another block.
     pub more: bool,
-}
-
-// A place in the output, and whether the output can still be written.
-struct Place {
-    at: usize,
-    open: bool,
 }
 
 // What the records of a block leave.
@@ -67,7 +60,7 @@ pub fn replay(
     let end = if length % RECORD == 0 {
         done.at
     } else {
-        put_bad(out, done.at)
+        put_words(out, done.at, b"bad\n")
     };
     let written = write_first(out, end);
     Left {
@@ -157,34 +150,4 @@ fn put_lines(
         return end;
     }
     put_state(out, end, slots, by_key, by_handle, marks, head)
-}
-
-// The place in the output from which to go on: the start, if it was full.
-fn next_place(out: &[u8; ROOM], at: usize) -> Place
-    ensures { λ r. ⌜ r .at ≤ 100000 ⌝ }
-{
-    if at <= FULL {
-        return Place { at, open: true };
-    }
-    let open = write_first(out, at);
-    Place { at: 0, open }
-}
-
-// Writes the first bytes of the output out.
-fn write_first(out: &[u8], count: usize) -> bool {
-    if count > out.len() {
-        return false;
-    }
-    io::write_all(1, &out[..count])
-}
-
-// The line of a short last record.
-fn put_bad(out: &mut [u8; ROOM], at: usize) -> usize
-    requires { ⌜ at + 4 ≤ 131072 ⌝ }
-    ensures { λ r. ⌜ r ≤ at + 4 ⌝ }
-{
-    let b = put(out, at, b'b');
-    let a = put(out, b, b'a');
-    let d = put(out, a, b'd');
-    put(out, d, b'\n')
 }

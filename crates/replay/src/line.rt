@@ -1,12 +1,12 @@
 // The line of an answer: code, value, passed, held, hand's key or `-`, list length, then the handles.
 use crate::sizes;
-use crate::text::ROOM;
-use crate::text::put;
-use crate::text::put_next;
-use crate::text::put_number;
 use answer::Answered;
 use page::PageCache;
 use page::Slot;
+use text::ROOM;
+use text::put;
+use text::put_next;
+use text::put_number;
 ghost use Prim.Native.Nat.{_+_, _≤_};
 
 pub fn put_answer(

@@ -9,7 +9,6 @@
 //     block.rt    the records of a block of input, one after another
 //     line.rt     the line of an answer
 //     state.rt    the line of a pool
-//     text.rt     bytes and numbers into the output
 //
 // All that a record does is `apply`'s, by its contract. What is here reads and writes. A short last record writes `bad`, and
 // nothing follows. It ends where the input ends, or where no more can be read or written.
@@ -18,7 +17,6 @@ mod block;
 mod line;
 mod sizes;
 mod state;
-mod text;
 
 use asking::Asked;
 

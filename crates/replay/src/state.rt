@@ -1,10 +1,11 @@
 // The line of a pool: `-`, capacity, spill switch, estimate, held, then key, handle and use count of each page in sweep order.
 use crate::sizes;
-use crate::text::ROOM;
-use crate::text::put;
-use crate::text::put_next;
 use listing::Listing;
 use page::PageCache;
+use text::ROOM;
+use text::put;
+use text::put_next;
+use text::put_words;
 ghost use Prim.Native.Nat.{_+_, _≤_};
 
 // Eight numbers to a page.
@@ -25,7 +26,8 @@ pub fn put_state(
     let mut pages = [0u64; NUMBERS];
     let listed = listing::list_numbers(slots, by_key, by_handle, marks, head, &mut pages);
     let Listing::Done(count) = listed else {
-        return put_no_cache(out, at);
+        // Before the first good creation.
+        return put_words(out, at, b"- no cache\n");
     };
     let numbers = put_head(out, at, head);
     let end = put_pages(out, numbers, &pages, count);
@@ -42,20 +44,6 @@ fn put_head(out: &mut [u8; ROOM], at: usize, head: PageCache) -> usize
     let spill = put_next(out, capacity, b' ', head.spill as u64);
     let estimate = put_next(out, spill, b' ', head.estimate as u64);
     put_next(out, estimate, b' ', head.held as u64)
-}
-
-// Before the first good creation.
-fn put_no_cache(out: &mut [u8; ROOM], at: usize) -> usize
-    requires { ⌜ at + 11 ≤ 131072 ⌝ }
-    ensures { λ r. ⌜ r ≤ at + 11 ⌝ }
-{
-    let words = b"- no cache\n";
-    let mut i = 0;
-    while i < 11 {
-        out[at + i] = words[i];
-        i += 1;
-    }
-    at + 11
 }
 
 fn put_pages(out: &mut [u8; ROOM], at: usize, pages: &[u64; NUMBERS], count: u32) -> usize

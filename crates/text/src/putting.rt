@@ -1,8 +1,9 @@
-// Bytes and numbers into the output. Each function answers the place after what it put.
+// Bytes, words and numbers into the output.
 ghost use mathlib.Core.Path.{_≡_};
 ghost use Prim.Native.Nat.{_+_, _≤_, _<_};
+ghost use lib.ListN.{length};
 
-// The output is written out when less room than for two of the longest lines is left.
+// The bytes of the output.
 pub const ROOM: usize = 131072;
 
 pub fn put(out: &mut [u8; ROOM], at: usize, b: u8) -> usize
@@ -13,6 +14,18 @@ pub fn put(out: &mut [u8; ROOM], at: usize, b: u8) -> usize
     at + 1
 }
 
+pub fn put_words(out: &mut [u8; ROOM], at: usize, words: &[u8]) -> usize
+    requires { ⌜ at + length (now words) ≤ 131072 ⌝ }
+    ensures { λ r. ⌜ r ≡ at + length (now (words .entry)) ⌝ }
+{
+    let mut i = 0;
+    while i < words.len() {
+        out[at + i] = words[i];
+        i += 1;
+    }
+    at + i
+}
+
 // A number's decimal digits.
 pub fn put_number(out: &mut [u8; ROOM], at: usize, n: u64) -> usize
     requires { ⌜ at + 20 ≤ 131072 ⌝ }
@@ -20,15 +33,7 @@ pub fn put_number(out: &mut [u8; ROOM], at: usize, n: u64) -> usize
 {
     let mut digits = [0u8; 20];
     let count = io::decimal(n, &mut digits);
-    if count > 20 {
-        return at;
-    }
-    let mut i = 0;
-    while i < count {
-        out[at + i] = digits[i];
-        i += 1;
-    }
-    at + count
+    put_words(out, at, &digits[..count])
 }
 
 // A byte, and a number after it.

@@ -1,20 +1,21 @@
--- Eleven bytes, and room for them. Assumes nothing.
+-- There is room for all the words, and each turn puts one byte. Assumes nothing.
 use Prim.Native.Nat.{_-_, _≤_}
+use lib.ListN.{length}
 use borrow.Author.Needs.{needs}
-use Rattle.replay.proofs.state.put_no_cache.Statement.{statement}
-use Rattle.replay.proofs.state.put_no_cache.Tie as tie
+use Rattle.text.proofs.putting.put_words.Statement.{statement}
+use Rattle.text.proofs.putting.put_words.Tie as tie
 
 abbrev Inv-loop : tie.InvT-loop
-Inv-loop out₀ at words i₀ out i = i ≤ 11
+Inv-loop out₀ at words i₀ out i = i ≤ length words
 
 abbrev μ-loop : tie.MeasureT-loop
-μ-loop out₀ at words i₀ out i = 11 - i
+μ-loop out₀ at words i₀ out i = length words - i
 
 loop-holds : tie.Need-loop-holds Inv-loop μ-loop
 loop-holds c = search needs
 
-element-copy-out-out : tie.Need-element-copy-out-out Inv-loop μ-loop
-element-copy-out-out c = search needs
+shared-slice-read-out : tie.Need-shared-slice-read-out Inv-loop μ-loop
+shared-slice-read-out c = search needs
 
 add-out : tie.Need-add-out Inv-loop μ-loop
 add-out c = search needs
@@ -37,14 +38,14 @@ add-result c = search needs
 returns : tie.Need-returns Inv-loop μ-loop
 returns c = search needs
 
-pub put-no-cache-spec : {M : Type 1} → statement M
-put-no-cache-spec =
+pub put-words-spec : {M : Type 1} → statement M
+put-words-spec =
     tie.close
     (tie.spec
     Inv-loop
     μ-loop
     loop-holds
-    element-copy-out-out
+    shared-slice-read-out
     add-out
     element-write-out
     add-i

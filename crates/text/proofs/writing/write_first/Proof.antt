@@ -3,8 +3,8 @@ use Prim.Native.Nat.{_-_}
 use lib.ListN.{length-take}
 use native.Mathlib.Omega.{arith}
 use borrow.Author.Needs.{needs}
-use Rattle.replay.proofs.block.write_first.Statement.{statement}
-use Rattle.replay.proofs.block.write_first.Tie as tie
+use Rattle.text.proofs.writing.write_first.Statement.{statement}
+use Rattle.text.proofs.writing.write_first.Tie as tie
 
 returns : tie.Need-returns
 returns c = search needs

@@ -1,0 +1,17 @@
+// Text for standard output, put together in one large array.
+//
+//     putting.rt   bytes, words and numbers into the output
+//     writing.rt   the output written out, when it is full and at the end
+//
+// A function that puts something answers the place after it. Its caller has seen that there is room.
+mod putting;
+mod writing;
+
+pub use putting::ROOM;
+pub use putting::put;
+pub use putting::put_next;
+pub use putting::put_number;
+pub use putting::put_words;
+pub use writing::Place;
+pub use writing::next_place;
+pub use writing::write_first;

@@ -1,0 +1,31 @@
+// The output written out.
+use crate::putting::ROOM;
+ghost use Prim.Native.Nat.{_≤_};
+
+// Above this the output is written out: 31,072 bytes are always left for what is put next.
+const FULL: usize = 100000;
+
+// A place in the output, and whether the output can still be written.
+pub struct Place {
+    pub at: usize,
+    pub open: bool,
+}
+
+// The place in the output from which to go on: the start, if it was full.
+pub fn next_place(out: &[u8; ROOM], at: usize) -> Place
+    ensures { λ r. ⌜ r .at ≤ 100000 ⌝ }
+{
+    if at <= FULL {
+        return Place { at, open: true };
+    }
+    let open = write_first(out, at);
+    Place { at: 0, open }
+}
+
+// Writes the first bytes of the output out.
+pub fn write_first(out: &[u8], count: usize) -> bool {
+    if count > out.len() {
+        return false;
+    }
+    io::write_all(1, &out[..count])
+}
