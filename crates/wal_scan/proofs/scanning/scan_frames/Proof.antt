@@ -1,0 +1,91 @@
+-- Each turn reads one frame more (proofs/Going.antt), and the output has room for its line. Assumes nothing.
+use Prim.Native.Nat.{_-_}
+use native.Mathlib.Omega.{arith}
+use borrow.Author.Needs.{needs}
+use Rattle.wal_scan.proofs.Going.{longest, Going, going-none, countable, going-more, further}
+use Rattle.wal_scan.proofs.scanning.scan_frames.Statement.{statement}
+use Rattle.wal_scan.proofs.scanning.scan_frames.Tie as tie
+
+abbrev Inv-loop : tie.InvT-loop
+Inv-loop fd says piece₀ header out₀ at₀ summary₀ piece out at summary = Going header summary at
+
+abbrev μ-loop : tie.MeasureT-loop
+μ-loop fd says piece₀ header out₀ at₀ summary₀ piece out at summary = longest - summary .end
+
+put-page-size-requires : tie.Need-put-page-size-requires Inv-loop μ-loop
+put-page-size-requires c κs = search needs
+
+start-requires : tie.Need-start-requires Inv-loop μ-loop
+start-requires c κs = search needs
+
+loop-holds : tie.Need-loop-holds Inv-loop μ-loop
+loop-holds c = going-none (c .start .ensures) (omega arith)
+
+read-frame-requires : tie.Need-read-frame-requires Inv-loop μ-loop
+read-frame-requires c κs = search needs
+
+enum-known-found : tie.Need-enum-known-found Inv-loop μ-loop
+enum-known-found c = search needs
+
+finish-requires : tie.Need-finish-requires Inv-loop μ-loop
+finish-requires c κs = search needs
+
+returns : tie.Need-returns Inv-loop μ-loop
+returns c = search needs
+
+next-place-requires : tie.Need-next-place-requires Inv-loop μ-loop
+next-place-requires c κs = search needs
+
+returns-2 : tie.Need-returns-2 Inv-loop μ-loop
+returns-2 c = search needs
+
+add-frame-requires : tie.Need-add-frame-requires Inv-loop μ-loop
+add-frame-requires c κs =
+    let at-test = c .before .before .before .before .before .before .before .before .before .before in
+    let at-loop = at-test .before .before in
+    countable (at-loop .loop .inv) (at-loop .before .before .before .before .before .pre) (at-test .if1 .taken)
+
+put-frame-requires : tie.Need-put-frame-requires Inv-loop μ-loop
+put-frame-requires c κs = search needs
+
+loop-less : tie.Need-loop-less Inv-loop μ-loop
+loop-less c =
+    let at-frame = c .before .before in
+    let at-test = at-frame .before .before .before .before .before .before .before .before .before .before .before in
+    further (at-test .before .before .loop .inv) _ (at-frame .add-frame .ensures) (at-test .if1 .taken)
+
+loop-again : tie.Need-loop-again Inv-loop μ-loop
+loop-again c =
+    let at-frame = c .before .before in
+    let at-place = at-frame .before .before .before in
+    let at-loop = at-place .before .before .before .before .before .before .before .before .before .before in
+    let room = at-place .next-place .ensures in
+    going-more (at-loop .loop .inv) _ (at-frame .add-frame .ensures) (omega (arith, c .put-frame .ensures, room))
+
+finish-requires-2 : tie.Need-finish-requires-2 Inv-loop μ-loop
+finish-requires-2 c κs = search needs
+
+returns-3 : tie.Need-returns-3 Inv-loop μ-loop
+returns-3 c = search needs
+
+pub scan-frames-spec : {M : Type 1} → statement M
+scan-frames-spec =
+    tie.close
+    (tie.spec
+    Inv-loop
+    μ-loop
+    put-page-size-requires
+    start-requires
+    loop-holds
+    read-frame-requires
+    enum-known-found
+    finish-requires
+    returns
+    next-place-requires
+    returns-2
+    add-frame-requires
+    put-frame-requires
+    loop-less
+    loop-again
+    finish-requires-2
+    returns-3)
