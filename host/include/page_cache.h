@@ -1,4 +1,4 @@
-/* The proved page cache, for C. Link target/staticlib/libpage_cache_c.a, which tools/library makes (x86-64 Linux).
+/* The proved page cache, for C. Link libpage_cache_c.a, which tools/library makes, for Linux on x86-64 or Arm (aarch64).
  *
  * The four functions are total: any lengths and any contents of what they are lent get a defined answer, and a refusal alters
  * nothing. What each does, to the last word, is its contract in crates/page_cache_c/specs/Exports.antt, and it is proved.
