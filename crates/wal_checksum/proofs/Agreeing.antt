@@ -5,7 +5,7 @@ use mathlib.Core.List.{List}
 use Prim.Native.Nat.{ℕ, zero, suc, _+_, _*_, _≤_, _<_}
 use native.Mathlib.Omega.{arith}
 use lib.ListN.{getD}
-use Rattle.wal_checksum.specs.Checksum.{bigEndian, littleEndian, word, checksum, sumsAt}
+use Rattle.wal_checksum.specs.Checksum.{bigEndian, littleEndian, word, checksum}
 use Rattle.wal_checksum.specs.declared.sums.Sums.{Sums}
 
 -- two logs have the same bytes below place k
@@ -29,6 +29,3 @@ module _ {k : ℕ} {b c : List ℕ} (same : Agree k b c) where
   agree-checksum big at zero s within = refl
   agree-checksum big at (suc pairs) s within =
       rw (agree-word big at (omega arith), agree-word big (at + 4) (omega arith)) (agree-checksum big (at + 8) pairs _ (omega arith))
-
-  pub agree-sums : (at : ℕ) → at + 8 ≤ k → sumsAt b at ≡ sumsAt c at
-  agree-sums at within = rw (agree-number at (omega arith), agree-number (at + 4) (omega arith))
