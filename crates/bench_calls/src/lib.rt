@@ -6,8 +6,8 @@
 // and leaves the memory sound for the next one.
 use dispatch::dispatch;
 use page::PageCache;
-use page_cache_c::put;
-use page_cache_c::read;
+use page_cache_c::put_head;
+use page_cache_c::read_head;
 use replay_record::Decoded;
 use replay_record::decode;
 use soundness::is_sound;
@@ -82,11 +82,11 @@ pub extern "C" fn pc_bench_run(
     if head.len() != 5 {
         return 16;
     }
-    let before = read(head);
+    let before = read_head(head);
     if !is_sound(slots, by_key, by_handle, marks, before) {
         return 1;
     }
     let after = run_each(records, slots, by_key, by_handle, marks, list, before);
-    put(head, after);
+    put_head(head, after);
     0
 }

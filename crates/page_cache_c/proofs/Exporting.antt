@@ -15,8 +15,9 @@ use Rattle.listing.specs.declared.testing.Listing.{Listing}
 use Rattle.answer.specs.declared.answered.Answered.{Answered}
 use Rattle.contract.specs.Called.{State}
 use Rattle.apply.specs.Applied.{Applied}
-use Rattle.page_cache_c.specs.Head.{headOf, headAfter}
-use Rattle.page_cache_c.specs.Exports.{Tests, sound, not-sound, Lists, lists, Applies, applies, PutAnswer}
+use Rattle.c_numbers.specs.Head.{headOf, headAfter}
+use Rattle.c_numbers.specs.Put.{PutAnswer}
+use Rattle.page_cache_c.specs.Exports.{Tests, sound, not-sound, Lists, lists, Applies, applies}
 
 module _ {m : Memory} {head : List ℕ} {read : PageCache} (long : length head ≡ 5) (is : read ≡ headOf head) where
   pub tests-sound : Sound m read → Tests m head 0

@@ -1,4 +1,2 @@
-pub mod Numbers
 pub mod Exporting
 pub mod Same
-pub mod Hand

@@ -15,8 +15,9 @@ use Rattle.answer.specs.Answer.{codeOf}
 use Rattle.answer.specs.declared.answered.Answered.{Answered}
 use Rattle.contract.specs.Called.{State}
 use Rattle.apply.proofs.Same.{applied-same}
-use Rattle.page_cache_c.specs.Head.{headAfter, answerOf}
-use Rattle.page_cache_c.specs.Exports.{headMade, Makes, unmade, makes, Tests, untested, sound, not-sound, Lists, unlisted, lists, Applies, unapplied, applies}
+use Rattle.c_numbers.specs.Head.{headAfter, answerOf}
+use Rattle.c_numbers.specs.Put.{headMade}
+use Rattle.page_cache_c.specs.Exports.{Makes, unmade, makes, Tests, untested, sound, not-sound, Lists, unlisted, lists, Applies, unapplied, applies}
 
 pub makes-same : {capacity : ℕ} {m a b : Memory} {head h k : List ℕ} {x y : ℕ} → Makes capacity m head a h x
     → Makes capacity m head b k y → (a ≡ b) × (h ≡ k) × (x ≡ y)

@@ -3,34 +3,21 @@ use mathlib.Core.Path.{_≡_}
 use mathlib.Core.List.{List}
 use Prim.Native.Nat.{ℕ}
 use lib.ListN.{length}
-use Rattle.page.specs.declared.entry.PageCacheEntry.{PageCacheEntry}
 use Rattle.pool.specs.Slots.{entries}
 use Rattle.memory.specs.Memory.{Memory}
 use Rattle.memory.specs.Holds.{Sound}
-use Rattle.creating.specs.Creation as creation
 use Rattle.creating.specs.Creation.{Creates}
 use Rattle.creating.specs.declared.creating.Created.{Created}
-use Rattle.creating.specs.declared.creating.Created.the-variants.{Done, BadLengths, TooLarge}
 use Rattle.listing.specs.Listing.{inNumbers}
 use Rattle.listing.specs.Outcome as listing
 use Rattle.listing.specs.declared.testing.Listing.{Listing}
-use Rattle.answer.specs.Answer.{codeOf}
 use Rattle.answer.specs.declared.answered.Answered.{Answered}
 use Rattle.contract.specs.Called.{State}
 use Rattle.apply.specs.Applied.{Applied}
-use Rattle.page_cache_c.specs.Head.{numbersOf, headOf, headAfter, answerOf}
+use Rattle.c_numbers.specs.Head.{headOf, headAfter}
+use Rattle.c_numbers.specs.Put.{PutCreated, PutAnswer}
 
 -- ── pc_create ────────────────────────────────────────────────────────────────
--- the numbers of the head after a creation: those of the new head, or as they were
-abbrev pub headMade : Created → List ℕ → List ℕ
-headMade (Done new) numbers = numbersOf new
-headMade BadLengths numbers = numbers
-headMade TooLarge numbers = numbers
-
-pub record PutCreated (made : Created) (before after : List ℕ) (answer : ℕ) : Type 0 where
-  pub head : after ≡ headMade made before
-  pub code : answer ≡ creation.codeOf made
-
 pub data Makes (capacity : ℕ) (m : Memory) (head : List ℕ) (m′ : Memory) (head′ : List ℕ) (code : ℕ) : Type 0 where
   unmade : (length head ≡ 5 → ⊥) → m′ ≡ m → head′ ≡ head → code ≡ 16 → Makes capacity m head m′ head′ code
   makes : (made : Created) → length head ≡ 5 → Creates m capacity made m′ → PutCreated made head head′ code
@@ -55,10 +42,6 @@ pub data Lists (m : Memory) (head list list′ : List ℕ) (code : ℕ) : Type 0
 pub record Fit (h a : List ℕ) : Type 0 where
   pub head : length h ≡ 5
   pub answer : length a ≡ 6
-
-pub record PutAnswer (es : List PageCacheEntry) (r : Answered) (after : List ℕ) (told : ℕ) : Type 0 where
-  pub answer : after ≡ answerOf es r
-  pub code : told ≡ codeOf (r .answer)
 
 pub data Applies (bytes : List ℕ) (before : State) (head answer : List ℕ) (after : State) (head′ answer′ : List ℕ) (code : ℕ) : Type 0 where
   unapplied : (Fit head answer → ⊥) → after ≡ before → head′ ≡ head → answer′ ≡ answer → code ≡ 16

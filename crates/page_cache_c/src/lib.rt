@@ -1,21 +1,24 @@
 // The cache for programs in C and Rust: the functions that the archive of this crate exports, on numbers and slices alone. They
 // ask nothing of what they are lent: any lengths and any contents get a defined answer, and a refusal alters nothing.
 //
-//     lib.rt       pc_create, pc_test, pc_list, pc_apply
-//     heads.rt     the head of a cache as five numbers
-//     answers.rt   an answer as six numbers
+//     pc_create    makes a cache
+//     pc_test      whether the memory is sound
+//     pc_list      the held pages
+//     pc_apply     carries out a replay record
 //
 // Each is one call of a proved function that takes any memory, with the head read before it and written after it. There are no
-// rules here. Callers may rely on specs/Exports.antt. Each function answers with document 01's code. A head or an answer of
-// another length than it has to have is 16, whatever is called, and nothing is looked at. Numbers that are no head are read as
-// one that makes the memory unsound, so that a call answers 1 and a creation can still be made.
-mod answers;
-mod heads;
-
+// rules here, and crate c_numbers has heads and answers as numbers. Callers may rely on specs/Exports.antt. Each function answers
+// with document 01's code. A head or an answer of another length than it has to have is 16, whatever is called, and nothing is
+// looked at. Numbers that are no head are read as one that makes the memory unsound, so that a call answers 1 and a creation can
+// still be made.
 use apply::apply;
+use c_numbers::listing_code;
+use c_numbers::put_answer;
+use c_numbers::put_answered;
+use c_numbers::put_created;
+pub use c_numbers::put_head;
+pub use c_numbers::read_head;
 use creating::create;
-pub use heads::put;
-pub use heads::read;
 use soundness::is_sound;
 ghost use Rattle.memory.specs.Memory.{memories};
 ghost use Rattle.contract.specs.Called.{lent};
@@ -50,7 +53,7 @@ pub extern "C" fn pc_create(
         return BAD_LENGTHS;
     }
     let made = create(slots, by_key, by_handle, marks, capacity);
-    heads::put_created(head, made)
+    put_created(head, made)
 }
 
 // Whether the memory is sound: 0 if it is, 1 if not.
@@ -67,7 +70,7 @@ pub extern "C" fn pc_test(
     if head.len() != HEAD {
         return BAD_LENGTHS;
     }
-    if is_sound(slots, by_key, by_handle, marks, heads::read(head)) {
+    if is_sound(slots, by_key, by_handle, marks, read_head(head)) {
         SOUND
     } else {
         NOT_SOUND
@@ -89,8 +92,8 @@ pub extern "C" fn pc_list(
     if head.len() != HEAD {
         return BAD_LENGTHS;
     }
-    let listed = listing::list_numbers(slots, by_key, by_handle, marks, heads::read(head), list);
-    answers::listing_code(listed)
+    let listed = listing::list_numbers(slots, by_key, by_handle, marks, read_head(head), list);
+    listing_code(listed)
 }
 
 // Carries out what 32 bytes ask for. The answer's numbers are written, and its code is handed back too.
@@ -120,8 +123,8 @@ pub extern "C" fn pc_apply(
         by_handle,
         marks,
         list,
-        heads::read(head),
+        read_head(head),
     );
-    heads::put_answered(head, answered);
-    answers::put(answer, slots, answered)
+    put_answered(head, answered);
+    put_answer(answer, slots, answered)
 }

@@ -7,8 +7,8 @@ use Rattle.bench_calls.proofs.pc_bench_run.Tie as tie
 returns : tie.Need-returns
 returns c = search needs
 
-read-requires : tie.Need-read-requires
-read-requires c κs = search needs
+read-head-requires : tie.Need-read-head-requires
+read-head-requires c κs = search needs
 
 is-sound-requires : tie.Need-is-sound-requires
 is-sound-requires c κs = search needs
@@ -34,8 +34,8 @@ returns-2 c = search needs
 run-each-requires : tie.Need-run-each-requires
 run-each-requires c κs = passes (c .before .before .before .before .before .before .is-sound .ensures) (c .before .before .before .before .before .if2 .left)
 
-put-requires : tie.Need-put-requires
-put-requires c κs = search needs
+put-head-requires : tie.Need-put-head-requires
+put-head-requires c κs = search needs
 
 same-length-6 : tie.Need-same-length-6
 same-length-6 c = search needs
@@ -63,7 +63,7 @@ pc-bench-run-spec =
     tie.close
     (tie.spec
     returns
-    read-requires
+    read-head-requires
     is-sound-requires
     same-length
     same-length-2
@@ -72,7 +72,7 @@ pc-bench-run-spec =
     same-length-5
     returns-2
     run-each-requires
-    put-requires
+    put-head-requires
     same-length-6
     same-length-7
     same-length-8

@@ -12,8 +12,8 @@ returns c = unapplied (λ fit. c .if1 .taken (fit .head)) refl refl refl refl
 returns-2 : tie.Need-returns-2
 returns-2 c = unapplied (λ fit. c .if2 .taken (fit .answer)) refl refl refl refl
 
-read-requires : tie.Need-read-requires
-read-requires c κs = search needs
+read-head-requires : tie.Need-read-head-requires
+read-head-requires c κs = search needs
 
 apply-requires : tie.Need-apply-requires
 apply-requires c κs = search needs
@@ -21,8 +21,8 @@ apply-requires c κs = search needs
 put-answered-requires : tie.Need-put-answered-requires
 put-answered-requires c κs = search needs
 
-put-requires : tie.Need-put-requires
-put-requires c κs = search needs
+put-answer-requires : tie.Need-put-answer-requires
+put-answer-requires c κs = search needs
 
 same-length : tie.Need-same-length
 same-length c = search needs
@@ -46,7 +46,7 @@ same-length-7 : tie.Need-same-length-7
 same-length-7 c = search needs
 
 returns-3 : tie.Need-returns-3
-returns-3 c = applies-read (c .before .before .before .before .before .before .before .before .before .before .before .before .before .before .before .before .before .before .before .before .before .before .before .before .before .before .before .before .if1 .left) (c .before .before .before .before .before .before .before .before .before .before .before .before .before .before .before .before .before .before .before .before .before .before .before .before .before .before .before .if2 .left) (c .before .before .before .before .before .before .before .before .before .before .before .before .before .before .before .before .before .before .before .before .read .ensures) (c .before .before .before .before .before .before .before .before .before .before .before .before .before .before .before .before .before .before .before .apply .ensures) (c .before .before .before .before .before .before .before .put-answered .ensures) (c .before .before .put .ensures)
+returns-3 c = applies-read (c .before .before .before .before .before .before .before .before .before .before .before .before .before .before .before .before .before .before .before .before .before .before .before .before .before .before .before .before .if1 .left) (c .before .before .before .before .before .before .before .before .before .before .before .before .before .before .before .before .before .before .before .before .before .before .before .before .before .before .before .if2 .left) (c .before .before .before .before .before .before .before .before .before .before .before .before .before .before .before .before .before .before .before .before .read-head .ensures) (c .before .before .before .before .before .before .before .before .before .before .before .before .before .before .before .before .before .before .before .apply .ensures) (c .before .before .before .before .before .before .before .put-answered .ensures) (c .before .before .put-answer .ensures)
 
 pub pc-apply-spec : {M : Type 1} → statement M
 pc-apply-spec =
@@ -54,10 +54,10 @@ pc-apply-spec =
     (tie.spec
     returns
     returns-2
-    read-requires
+    read-head-requires
     apply-requires
     put-answered-requires
-    put-requires
+    put-answer-requires
     same-length
     same-length-2
     same-length-3

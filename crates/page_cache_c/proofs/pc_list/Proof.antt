@@ -10,8 +10,8 @@ use Rattle.page_cache_c.proofs.pc_list.Tie as tie
 returns : tie.Need-returns
 returns c = unlisted (c .if1 .taken) refl refl
 
-read-requires : tie.Need-read-requires
-read-requires c κs = search needs
+read-head-requires : tie.Need-read-head-requires
+read-head-requires c κs = search needs
 
 list-numbers-requires : tie.Need-list-numbers-requires
 list-numbers-requires c κs = search needs
@@ -23,14 +23,14 @@ same-length : tie.Need-same-length
 same-length c = search needs
 
 returns-2 : tie.Need-returns-2
-returns-2 c = lists-read (c .before .before .before .before .before .before .if1 .left) (c .before .before .before .before .before .read .ensures) (c .before .before .before .list-numbers .ensures) (c .listing-code .ensures)
+returns-2 c = lists-read (c .before .before .before .before .before .before .if1 .left) (c .before .before .before .before .before .read-head .ensures) (c .before .before .before .list-numbers .ensures) (c .listing-code .ensures)
 
 pub pc-list-spec : {M : Type 1} → statement M
 pc-list-spec =
     tie.close
     (tie.spec
     returns
-    read-requires
+    read-head-requires
     list-numbers-requires
     listing-code-requires
     same-length

@@ -8,8 +8,8 @@ ghost use mathlib.Core.Path.{_≡_};
 ghost use lib.ListN.{length};
 ghost use Rattle.pool.specs.Slots.{entries};
 ghost use Rattle.listing.specs.Outcome.{codeOf};
-ghost use Rattle.page_cache_c.specs.Head.{handKey};
-ghost use Rattle.page_cache_c.specs.Exports.{PutAnswer};
+ghost use Rattle.c_numbers.specs.Head.{handKey};
+ghost use Rattle.c_numbers.specs.Put.{PutAnswer};
 
 // No key: one above the largest.
 const NONE: u64 = 1 << 32;
@@ -31,7 +31,7 @@ fn hand_key(slots: &[u64], head: PageCache) -> u64
 }
 
 // Writes the answer's numbers, and hands its code back.
-pub fn put(answer: &mut [u64], slots: &[u64], answered: Answered) -> u32
+pub fn put_answer(answer: &mut [u64], slots: &[u64], answered: Answered) -> u32
     requires { ⌜ length (now answer) ≡ 6 ⌝ }
     ensures { λ r. ⌜ PutAnswer (entries (now (slots .entry))) answered (now (answer .exit)) r ⌝ }
 {

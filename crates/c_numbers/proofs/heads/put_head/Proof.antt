@@ -2,9 +2,9 @@
 use native.Mathlib.Omega.{arith}
 use lib.ListN.{length-set}
 use borrow.Author.Needs.{needs}
-use Rattle.page_cache_c.proofs.Numbers.{five}
-use Rattle.page_cache_c.proofs.heads.put.Statement.{statement}
-use Rattle.page_cache_c.proofs.heads.put.Tie as tie
+use Rattle.c_numbers.proofs.Numbers.{five}
+use Rattle.c_numbers.proofs.heads.put_head.Statement.{statement}
+use Rattle.c_numbers.proofs.heads.put_head.Tie as tie
 
 cast-head : tie.Need-cast-head
 cast-head c = search needs
@@ -42,8 +42,8 @@ same-length c = search needs
 returns : tie.Need-returns
 returns c = five (c .before .before .before .before .before .args .head .now) _ _ _ _ _ (c .before .before .before .before .before .pre)
 
-pub put-spec : {M : Type 1} → statement M
-put-spec =
+pub put-head-spec : {M : Type 1} → statement M
+put-head-spec =
     tie.close
     (tie.spec
     cast-head

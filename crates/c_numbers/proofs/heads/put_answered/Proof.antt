@@ -1,9 +1,9 @@
 -- The test whether to write is the one that the definition makes. Assumes nothing.
 use borrow.Author.Needs.{needs}
 use mathlib.Core.Path.{_∙_}
-use Rattle.page_cache_c.proofs.Numbers.{written, kept}
-use Rattle.page_cache_c.proofs.heads.put_answered.Statement.{statement}
-use Rattle.page_cache_c.proofs.heads.put_answered.Tie as tie
+use Rattle.c_numbers.proofs.Numbers.{written, kept}
+use Rattle.c_numbers.proofs.heads.put_answered.Statement.{statement}
+use Rattle.c_numbers.proofs.heads.put_answered.Tie as tie
 
 code-of-requires : tie.Need-code-of-requires
 code-of-requires c κs = search needs
@@ -11,14 +11,14 @@ code-of-requires c κs = search needs
 fit-requires : tie.Need-fit-requires
 fit-requires c κs = search needs
 
-put-requires : tie.Need-put-requires
-put-requires c κs = search needs
+put-head-requires : tie.Need-put-head-requires
+put-head-requires c κs = search needs
 
 same-length : tie.Need-same-length
 same-length c = search needs
 
 returns : tie.Need-returns
-returns c = c .before .before .put .ensures ∙ written (c .before .before .before .before .before .before .before .before .before .before .args .head .now) (c .before .before .before .before .before .fit .ensures) (c .before .before .before .before .before .before .before .before .before .before .args .answered) (c .before .before .before .before .before .before .before .code-of .ensures) (c .before .before .before .before .if1 .taken)
+returns c = c .before .before .put-head .ensures ∙ written (c .before .before .before .before .before .before .before .before .before .before .args .head .now) (c .before .before .before .before .before .fit .ensures) (c .before .before .before .before .before .before .before .before .before .before .args .answered) (c .before .before .before .before .before .before .before .code-of .ensures) (c .before .before .before .before .if1 .taken)
 
 same-length-2 : tie.Need-same-length-2
 same-length-2 c = search needs
@@ -32,7 +32,7 @@ put-answered-spec =
     (tie.spec
     code-of-requires
     fit-requires
-    put-requires
+    put-head-requires
     same-length
     returns
     same-length-2

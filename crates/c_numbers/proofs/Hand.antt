@@ -14,7 +14,7 @@ use Rattle.pool.specs.Slots.{entries}
 use Rattle.model.specs.Cache.{Cache}
 use Rattle.memory.specs.Memory.{Memory}
 use Rattle.memory.specs.Holds.{Holds, rowOf}
-use Rattle.page_cache_c.specs.Head.{handKey, firstKey}
+use Rattle.c_numbers.specs.Head.{handKey, firstKey}
 
 by-seats : (es : List PageCacheEntry) (head : PageCache) (seats : List ℕ) → RingOf es seats → head .held ≡ length seats
     → head .hand .0 ≡ firstOf seats → handKey es head ≡ firstKey (rowOf es seats)

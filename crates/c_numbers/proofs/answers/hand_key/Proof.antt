@@ -1,8 +1,8 @@
 -- Each return is after the tests that its answer follows from. Assumes nothing.
 use borrow.Author.Needs.{needs}
-use Rattle.page_cache_c.proofs.Numbers.{nothing-held, no-slot, a-slot, quarter}
-use Rattle.page_cache_c.proofs.answers.hand_key.Statement.{statement}
-use Rattle.page_cache_c.proofs.answers.hand_key.Tie as tie
+use Rattle.c_numbers.proofs.Numbers.{nothing-held, no-slot, a-slot, quarter}
+use Rattle.c_numbers.proofs.answers.hand_key.Statement.{statement}
+use Rattle.c_numbers.proofs.answers.hand_key.Tie as tie
 
 returns : tie.Need-returns
 returns c = nothing-held (c .before .before .before .before .args .slots .now) (c .before .before .before .before .args .head) (c .if1 .taken)

@@ -6,8 +6,8 @@ use page::PageCache;
 use page::Slot;
 ghost use mathlib.Core.Path.{_≡_};
 ghost use lib.ListN.{length};
-ghost use Rattle.page_cache_c.specs.Head.{fits, headOf, numbersOf, headAfter};
-ghost use Rattle.page_cache_c.specs.Exports.{PutCreated};
+ghost use Rattle.c_numbers.specs.Head.{fits, headOf, numbersOf, headAfter};
+ghost use Rattle.c_numbers.specs.Put.{PutCreated};
 
 // One above the largest number of 32 bits.
 const ABOVE: u64 = 1 << 32;
@@ -21,7 +21,7 @@ fn fit(head: &[u64]) -> bool
 }
 
 // The head that the numbers are.
-pub fn read(head: &[u64]) -> PageCache
+pub fn read_head(head: &[u64]) -> PageCache
     requires { ⌜ length (now head) ≡ 5 ⌝ }
     ensures { λ r. ⌜ r ≡ headOf (now (head .entry)) ⌝ }
 {
@@ -44,7 +44,7 @@ pub fn read(head: &[u64]) -> PageCache
 }
 
 // The numbers of a head.
-pub fn put(head: &mut [u64], new: PageCache)
+pub fn put_head(head: &mut [u64], new: PageCache)
     requires { ⌜ length (now head) ≡ 5 ⌝ }
     ensures { λ _. ⌜ now (head .exit) ≡ numbersOf new ⌝ }
 {
@@ -62,7 +62,7 @@ pub fn put_created(head: &mut [u64], made: Created) -> u32
 {
     match made {
         Created::Done(new) => {
-            put(head, new);
+            put_head(head, new);
             0
         }
         Created::BadLengths => 16,
@@ -79,6 +79,6 @@ pub fn put_answered(head: &mut [u64], answered: Answered)
     let answer = answered.answer;
     let code = code_of(answer);
     if fit(head) | (code == 0) {
-        put(head, new);
+        put_head(head, new);
     }
 }

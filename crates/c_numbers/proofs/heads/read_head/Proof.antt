@@ -1,9 +1,9 @@
 -- The numbers are read only if they fit. Assumes nothing.
 use native.Mathlib.Omega.{arith}
 use borrow.Author.Needs.{needs}
-use Rattle.page_cache_c.proofs.Numbers.{within, read-none, read-fields}
-use Rattle.page_cache_c.proofs.heads.read.Statement.{statement}
-use Rattle.page_cache_c.proofs.heads.read.Tie as tie
+use Rattle.c_numbers.proofs.Numbers.{within, read-none, read-fields}
+use Rattle.c_numbers.proofs.heads.read_head.Statement.{statement}
+use Rattle.c_numbers.proofs.heads.read_head.Tie as tie
 
 fit-requires : tie.Need-fit-requires
 fit-requires c κs = search needs
@@ -44,8 +44,8 @@ cast-t20 c = omega (arith, within (c .before .before .before .before .before .be
 returns-2 : tie.Need-returns-2
 returns-2 c = read-fields (c .before .before .before .before .before .before .before .before .args .head .now) (c .before .before .before .before .before .before .fit .ensures) (c .before .before .before .before .before .if1 .left)
 
-pub read-spec : {M : Type 1} → statement M
-read-spec =
+pub read-head-spec : {M : Type 1} → statement M
+read-head-spec =
     tie.close
     (tie.spec
     fit-requires

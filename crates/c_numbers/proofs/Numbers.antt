@@ -14,7 +14,7 @@ use Rattle.pool.specs.Slots.{entries, blank}
 use Rattle.pool.proofs.Packing.{entries-length}
 use Rattle.answer.specs.Answer.{codeOf, valueOf}
 use Rattle.answer.specs.declared.answered.Answered.{Answered}
-use Rattle.page_cache_c.specs.Head.{fits, noHead, fieldsOf, headOf, numbersOf, headAfter, none, handKey, answerOf}
+use Rattle.c_numbers.specs.Head.{fits, noHead, fieldsOf, headOf, numbersOf, headAfter, none, handKey, answerOf}
 
 -- ── every place is stored ────────────────────────────────────────────────────
 pub five : (l : List ℕ) (a b c d e : ℕ) → length l ≡ 5

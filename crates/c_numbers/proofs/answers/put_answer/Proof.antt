@@ -3,9 +3,9 @@ use native.Mathlib.Omega.{arith}
 use lib.ListN.{length-set}
 use borrow.Author.Needs.{needs}
 use Rattle.pool.specs.Slots.{entries}
-use Rattle.page_cache_c.proofs.Numbers.{answer-stored}
-use Rattle.page_cache_c.proofs.answers.put.Statement.{statement}
-use Rattle.page_cache_c.proofs.answers.put.Tie as tie
+use Rattle.c_numbers.proofs.Numbers.{answer-stored}
+use Rattle.c_numbers.proofs.answers.put_answer.Statement.{statement}
+use Rattle.c_numbers.proofs.answers.put_answer.Tie as tie
 
 code-of-requires : tie.Need-code-of-requires
 code-of-requires c κs = search needs
@@ -55,8 +55,8 @@ same-length c = search needs
 returns : tie.Need-returns
 returns c = record { answer = answer-stored (c .before .before .before .before .before .before .before .before .args .answer .now) (entries (c .before .before .before .before .before .before .before .before .args .slots .now)) (c .before .before .before .before .before .before .before .before .args .answered) (c .before .before .before .before .before .before .before .before .pre) (c .before .before .before .before .code-of .ensures) (c .before .before .before .value-of .ensures) (c .before .hand-key .ensures); code = c .before .before .before .before .code-of .ensures }
 
-pub put-spec : {M : Type 1} → statement M
-put-spec =
+pub put-answer-spec : {M : Type 1} → statement M
+put-answer-spec =
     tie.close
     (tie.spec
     code-of-requires

@@ -1,14 +1,14 @@
 -- The head is written after a creation that is done. Assumes nothing.
 use mathlib.Core.Path.{refl}
 use borrow.Author.Needs.{needs}
-use Rattle.page_cache_c.proofs.heads.put_created.Statement.{statement}
-use Rattle.page_cache_c.proofs.heads.put_created.Tie as tie
+use Rattle.c_numbers.proofs.heads.put_created.Statement.{statement}
+use Rattle.c_numbers.proofs.heads.put_created.Tie as tie
 
 enum-known-made : tie.Need-enum-known-made
 enum-known-made c = search needs
 
-put-requires : tie.Need-put-requires
-put-requires c κs = search needs
+put-head-requires : tie.Need-put-head-requires
+put-head-requires c κs = search needs
 
 enum-told : tie.Need-enum-told
 enum-told c = search needs
@@ -20,7 +20,7 @@ same-length : tie.Need-same-length
 same-length c = search needs
 
 returns : tie.Need-returns
-returns c = record { head = rw (c .before .before .before .before .before .made .given .1) (c .before .before .put .ensures); code = rw (c .before .before .before .before .before .made .given .1) refl }
+returns c = record { head = rw (c .before .before .before .before .before .made .given .1) (c .before .before .put-head .ensures); code = rw (c .before .before .before .before .before .made .given .1) refl }
 
 returns-2 : tie.Need-returns-2
 returns-2 c = search needs
@@ -33,7 +33,7 @@ put-created-spec =
     tie.close
     (tie.spec
     enum-known-made
-    put-requires
+    put-head-requires
     enum-told
     enum-told-2
     same-length
