@@ -7,9 +7,10 @@ use lib.Dec.{ltb}
 use lib.ListN.{length}
 use native.Mathlib.Omega.{arith}
 use borrow.Author.Tests.{ltb-false, lt-ltb, le-ltb, eq-eqb, ne-eqb}
+use Rattle.page_size.specs.PageSize.{isPageSize}
 use Rattle.wal_checksum.specs.Checksum.{bigEndian, checksum, sumsAt, sameSums}
 use Rattle.wal_checksum.specs.declared.sums.Sums.{Sums}
-use Rattle.wal_header.specs.Header.{isBig, isMagic, isPageSize, headerSums, headerOf, opened}
+use Rattle.wal_header.specs.Header.{isBig, isMagic, headerSums, headerOf, opened}
 use Rattle.wal_header.specs.declared.header.Header.{Header}
 use Rattle.wal_header.specs.declared.header.Fault.the-variants.{Length, Magic, Version, PageSize, Checksum}
 use Rattle.wal_header.specs.declared.header.Opened.{Opened}

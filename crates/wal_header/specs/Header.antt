@@ -4,6 +4,7 @@ use mathlib.Core.List.{List}
 use Prim.Native.Nat.{ℕ}
 use lib.Dec.{eqb, ltb}
 use lib.ListN.{length}
+use Rattle.page_size.specs.PageSize.{isPageSize}
 use Rattle.wal_checksum.specs.Checksum.{bigEndian, checksum, sumsAt, sameSums}
 use Rattle.wal_checksum.specs.declared.sums.Sums.{Sums}
 use Rattle.wal_header.specs.declared.header.Header.{Header}
@@ -17,10 +18,6 @@ isBig n = eqb n 931071619
 
 abbrev pub isMagic : ℕ → Bool
 isMagic n = eqb n 931071618 || isBig n
-
--- a power of two from 512 to 65,536
-abbrev pub isPageSize : ℕ → Bool
-isPageSize n = (((eqb n 512 || eqb n 1024) || eqb n 2048) || eqb n 4096) || (((eqb n 8192 || eqb n 16384) || eqb n 32768) || eqb n 65536)
 
 -- 'a checksum on the first 24 bytes of header': three pairs of words
 unfoldable pub headerSums : List ℕ → Sums

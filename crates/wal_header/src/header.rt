@@ -1,11 +1,12 @@
 // The header of a log.
+use page_size::is_page_size;
 use wal_checksum::Sums;
 use wal_checksum::checksum;
 use wal_checksum::number_at;
 use wal_checksum::same;
 use wal_checksum::sums_at;
 ghost use mathlib.Core.Path.{_≡_};
-ghost use Rattle.wal_header.specs.Header.{isMagic, isPageSize, opened};
+ghost use Rattle.wal_header.specs.Header.{isMagic, opened};
 
 pub struct Header {
     // Whether the words that are summed are big-endian.
@@ -84,12 +85,4 @@ fn is_magic(n: u32) -> bool
     ensures { λ r. ⌜ r ≡ isMagic n ⌝ }
 {
     (n == MAGIC_LITTLE) | (n == MAGIC_BIG)
-}
-
-fn is_page_size(n: u32) -> bool
-    ensures { λ r. ⌜ r ≡ isPageSize n ⌝ }
-{
-    let small = (n == 512) | (n == 1024) | (n == 2048) | (n == 4096);
-    let large = (n == 8192) | (n == 16384) | (n == 32768) | (n == 65536);
-    small | large
 }

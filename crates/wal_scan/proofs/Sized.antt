@@ -1,38 +1,20 @@
 -- A header is opened only with a page size that is one of the eight, of which 65,536 is the largest. Assumes nothing.
-use mathlib.Core.Path.{_≡_, refl, sym, ap, _∙_}
-use mathlib.Core.Bool.{Bool, true, false, not, cond, true≢false}
+use mathlib.Core.Path.{_≡_, refl, ap}
+use mathlib.Core.Bool.{Bool, true, false, not, cond}
 use mathlib.Core.List.{List}
-use Prim.Native.Nat.{ℕ, _≤_, _<_}
-use native.Mathlib.Decide.{decLt}
+use Prim.Native.Nat.{ℕ, _≤_}
 use native.Mathlib.Omega.{arith}
 use lib.Dec.{eqb, ltb}
 use lib.ListN.{length}
-use borrow.Author.Tests.{ne-eqb, not-false}
+use borrow.Author.Tests.{not-false}
+use Rattle.page_size.specs.PageSize.{isPageSize}
+use Rattle.page_size.proofs.Bounds.{largest}
 use Rattle.wal_checksum.specs.Checksum.{bigEndian, sumsAt, sameSums}
-use Rattle.wal_header.specs.Header.{isMagic, isPageSize, headerSums, headerOf, opened}
+use Rattle.wal_header.specs.Header.{isMagic, headerSums, headerOf, opened}
 use Rattle.wal_header.specs.declared.header.Header.{Header}
 use Rattle.wal_header.specs.declared.header.Fault.{Fault}
 use Rattle.wal_header.specs.declared.header.Opened.{Opened}
 use Rattle.wal_header.specs.declared.header.Opened.the-variants.{Refused, Log}
-
-largest : (n : ℕ) → isPageSize n ≡ true → n ≤ 65536
-largest n is = go (decLt 65536 n)
-  where
-    go : Dec (65536 < n) → n ≤ 65536
-    go (no small) = omega arith
-    go (yes large) =
-        let other : isPageSize n ≡ false =
-        simp (
-          ne-eqb n 512 (λ e. omega arith),
-          ne-eqb n 1024 (λ e. omega arith),
-          ne-eqb n 2048 (λ e. omega arith),
-          ne-eqb n 4096 (λ e. omega arith),
-          ne-eqb n 8192 (λ e. omega arith),
-          ne-eqb n 16384 (λ e. omega arith),
-          ne-eqb n 32768 (λ e. omega arith),
-          ne-eqb n 65536 (λ e. omega arith),
-        ) in
-        absurd (true≢false (sym is ∙ other))
 
 -- a header that is opened had none of the faults
 module _ {h : Header} where

@@ -2,8 +2,9 @@
 use mathlib.Core.Path.{_≡_, sym, _∙_}
 use borrow.Author.Needs.{needs}
 use borrow.Author.Tests.{not-true, not-false}
+use Rattle.page_size.specs.PageSize.{isPageSize}
 use Rattle.wal_checksum.specs.Checksum.{sumsAt, sameSums}
-use Rattle.wal_header.specs.Header.{isMagic, isPageSize, headerSums}
+use Rattle.wal_header.specs.Header.{isMagic, headerSums}
 use Rattle.wal_header.proofs.Opening.{tested, sums-compared, header-read, Known, Current, Sized, opened-length, opened-magic, opened-version, opened-page-size, opened-checksum, opened-log}
 use Rattle.wal_header.proofs.header.open.Statement.{statement}
 use Rattle.wal_header.proofs.header.open.Tie as tie
