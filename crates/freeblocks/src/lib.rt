@@ -1,0 +1,44 @@
+// The freeblock chain of a b-tree page ("Database File Format", 1.6; document 02, item 9).
+//
+//     | next block 2 | size 2 | .. |      a freeblock: both numbers big-endian; no next block: 0
+//
+// Callers may rely on `first_bad` for any bytes of the page: a chain that goes round, back or into the header is bad where it first
+// does so. It ends, since each block that it goes on from lies after the end of the one before.
+use page_format::Place;
+use page_format::half_at;
+ghost use Rattle.page_format.specs.Rules.{Chain};
+ghost use Rattle.freeblocks.specs.Chained.{Linked};
+
+// A block's link and its size.
+const LEAST_BLOCK: usize = 4;
+
+// The place of the first bad link or size of the chain that goes on with the link at a place. Its blocks lie from `least` to `end`,
+// the usable end.
+pub fn first_bad(image: &[u8], end: usize, link: usize, least: usize) -> Place
+    requires { ⌜ Linked (now image) end link ⌝ }
+    ensures { λ r. ⌜ Chain (now (image .entry)) end link least r ⌝ }
+{
+    let mut at = link;
+    let mut free = least;
+    loop {
+        let block = half_at(image, at);
+        if block == 0 {
+            return Place::Nowhere;
+        }
+        if block < free {
+            return Place::At(at);
+        }
+        if block > end - LEAST_BLOCK {
+            return Place::At(at);
+        }
+        let size = half_at(image, block + 2);
+        if size < LEAST_BLOCK {
+            return Place::At(block + 2);
+        }
+        if size > end - block {
+            return Place::At(block + 2);
+        }
+        at = block;
+        free = block + size;
+    }
+}
