@@ -44,3 +44,12 @@ pub fn put_next(out: &mut [u8; ROOM], at: usize, b: u8, n: u64) -> usize
     let next = put(out, at, b);
     put_number(out, next, n)
 }
+
+// Words, and a number after them.
+pub fn put_named(out: &mut [u8; ROOM], at: usize, words: &[u8], n: u64) -> usize
+    requires { ⌜ at + length (now words) + 20 ≤ 131072 ⌝ }
+    ensures { λ r. ⌜ r ≤ at + length (now (words .entry)) + 20 ⌝ }
+{
+    let next = put_words(out, at, words);
+    put_number(out, next, n)
+}

@@ -1,4 +1,4 @@
-// The output written out.
+// The output written out, and messages.
 use crate::putting::ROOM;
 ghost use Prim.Native.Nat.{_≤_};
 
@@ -28,4 +28,9 @@ pub fn write_first(out: &[u8], count: usize) -> bool {
         return false;
     }
     io::write_all(1, &out[..count])
+}
+
+// A message, or a part of one, to standard error.
+pub fn say(words: &[u8]) {
+    io::write_all(2, words);
 }

@@ -1,14 +1,13 @@
 // What is written of a log.
 use text::ROOM;
 use text::put;
+use text::put_named;
 use text::put_next;
-use text::put_number;
 use text::put_words;
 use wal_frame::Frame;
 use wal_scanner::Commit;
 use wal_scanner::Summary;
 ghost use Prim.Native.Nat.{_+_, _≤_};
-ghost use lib.ListN.{length};
 
 pub fn put_page_size(out: &mut [u8; ROOM], at: usize, size: u32) -> usize
     requires { ⌜ at + 38 ≤ 131072 ⌝ }
@@ -68,13 +67,4 @@ fn put_end(out: &mut [u8; ROOM], at: usize, summary: Summary) -> usize
     let first = put_named(out, offset, b" bytes\nend sums: ", sums.s0 as u64);
     let second = put_next(out, first, b' ', sums.s1 as u64);
     put(out, second, b'\n')
-}
-
-// Words, and a number after them.
-fn put_named(out: &mut [u8; ROOM], at: usize, words: &[u8], n: u64) -> usize
-    requires { ⌜ at + length (now words) + 20 ≤ 131072 ⌝ }
-    ensures { λ r. ⌜ r ≤ at + length (now (words .entry)) + 20 ⌝ }
-{
-    let next = put_words(out, at, words);
-    put_number(out, next, n)
 }

@@ -11,7 +11,6 @@
 //     end offset: 8272 bytes
 //     end sums: 305419896 2271560481
 //
-//     reading.rt    a piece of the log into memory
 //     scanning.rt   the header, and the frames one after another
 //     lines.rt      what is written of each
 //
@@ -19,11 +18,11 @@
 // frame at a time, so that a log of any length takes the same memory. Why there is no log, or no more of it, is a line on
 // standard error. It ends where the valid frames end, or where no more can be read or written.
 mod lines;
-mod reading;
 mod scanning;
 
 use text::ROOM;
 use text::put_words;
+use text::say;
 ghost use Prim.Native.Nat.{_≤_};
 ghost use lib.ListN.{length};
 
@@ -32,7 +31,7 @@ const NAME: usize = 10;
 
 fn main() {
     if os::arg_count() != 2 {
-        io::write_all(2, b"usage: wal_scan LOG\n");
+        say(b"usage: wal_scan LOG\n");
         return;
     }
     let mut says = message();
@@ -50,25 +49,11 @@ fn message() -> [u8; ROOM] {
 fn scan_argument(says: &mut [u8])
     requires { ⌜ 10 ≤ length (now says) ⌝ }
 {
-    let length = os::arg(1, &mut says[NAME..]);
-    if os::errno() != 0 {
-        // Too long: as much of it as there is room for is in `says`.
-        os::fail(says);
+    let file = input::open_argument(says, NAME);
+    if file.fd < 0 {
         return;
     }
-    let end = NAME + length;
-    scan_file(&says[..end]);
-}
-
-// `says` is what a message begins with, with the file's name.
-fn scan_file(says: &[u8])
-    requires { ⌜ 10 ≤ length (now says) ⌝ }
-{
-    let fd = os::open_read(&says[NAME..]);
-    if fd < 0 {
-        os::fail(says);
-        return;
-    }
-    scanning::scan(fd, says);
-    libc::close(fd);
+    let end = file.end;
+    scanning::scan(file.fd, &says[..end]);
+    libc::close(file.fd);
 }

@@ -1,9 +1,9 @@
 // The header, and the frames one after another.
 use crate::lines;
-use crate::reading::PIECE;
-use crate::reading::fill;
+use input::fill;
 use text::ROOM;
 use text::next_place;
+use text::say;
 use text::write_first;
 use wal_checksum::Sums;
 use wal_frame::Frame;
@@ -16,6 +16,9 @@ use wal_scanner::Summary;
 ghost use Prim.Native.Nat.{_≤_};
 ghost use lib.ListN.{length};
 ghost use Rattle.wal_frame.specs.Frame.{frameLength};
+
+// A frame with the largest page: its header of 24 bytes and 65,536.
+const PIECE: usize = 65560;
 
 // No file is longer.
 const LONGEST: usize = 9223372036854775807;
@@ -53,10 +56,6 @@ fn refuse(says: &[u8], fault: Fault) {
         Fault::PageSize => say(b"page size\n"),
         Fault::Checksum => say(b"checksum\n"),
     }
-}
-
-fn say(words: &[u8]) {
-    io::write_all(2, words);
 }
 
 // Each frame's line is put as it is read, and what was counted at the end.

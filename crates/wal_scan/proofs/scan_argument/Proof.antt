@@ -5,23 +5,8 @@ use borrow.Author.Needs.{needs}
 use Rattle.wal_scan.proofs.scan_argument.Statement.{statement}
 use Rattle.wal_scan.proofs.scan_argument.Tie as tie
 
-sub-arg : tie.Need-sub-arg
-sub-arg c = search needs
-
-part-arg-start : tie.Need-part-arg-start
-part-arg-start c = search needs
-
-part-arg-end : tie.Need-part-arg-end
-part-arg-end c = search needs
-
-arg-requires : tie.Need-arg-requires
-arg-requires c κs = search needs
-
-errno-requires : tie.Need-errno-requires
-errno-requires c κs = search needs
-
-fail-requires : tie.Need-fail-requires
-fail-requires c κs = search needs
+open-argument-requires : tie.Need-open-argument-requires
+open-argument-requires c κs = search needs
 
 same-length : tie.Need-same-length
 same-length c = search needs
@@ -29,17 +14,17 @@ same-length c = search needs
 returns : tie.Need-returns
 returns c = search needs
 
-add-end : tie.Need-add-end
-add-end c = search needs
+slice-reshare-prefix-scan : tie.Need-slice-reshare-prefix-scan
+slice-reshare-prefix-scan c = search needs
 
-slice-reshare-prefix-scan-file : tie.Need-slice-reshare-prefix-scan-file
-slice-reshare-prefix-scan-file c = search needs
+slice-aggregate-scan : tie.Need-slice-aggregate-scan
+slice-aggregate-scan c = simp length-take (omega arith)
 
-slice-aggregate-scan-file : tie.Need-slice-aggregate-scan-file
-slice-aggregate-scan-file c = simp length-take (omega arith)
+scan-requires : tie.Need-scan-requires
+scan-requires c κs = search needs
 
-scan-file-requires : tie.Need-scan-file-requires
-scan-file-requires c κs = simp length-take (omega arith)
+close-requires : tie.Need-close-requires
+close-requires c κs = search needs
 
 same-length-2 : tie.Need-same-length-2
 same-length-2 c = search needs
@@ -51,17 +36,12 @@ pub scan-argument-spec : {M : Type 1} → statement M
 scan-argument-spec =
     tie.close
     (tie.spec
-    sub-arg
-    part-arg-start
-    part-arg-end
-    arg-requires
-    errno-requires
-    fail-requires
+    open-argument-requires
     same-length
     returns
-    add-end
-    slice-reshare-prefix-scan-file
-    slice-aggregate-scan-file
-    scan-file-requires
+    slice-reshare-prefix-scan
+    slice-aggregate-scan
+    scan-requires
+    close-requires
     same-length-2
     returns-2)

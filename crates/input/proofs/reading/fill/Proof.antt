@@ -3,8 +3,8 @@ use mathlib.Core.Path.{_≡_}
 use Prim.Native.Nat.{_-_, _≤_}
 use lib.ListN.{length}
 use borrow.Author.Needs.{needs}
-use Rattle.wal_scan.proofs.reading.fill.Statement.{statement}
-use Rattle.wal_scan.proofs.reading.fill.Tie as tie
+use Rattle.input.proofs.reading.fill.Statement.{statement}
+use Rattle.input.proofs.reading.fill.Tie as tie
 
 abbrev Inv-loop : tie.InvT-loop
 Inv-loop fd piece₀ size count₀ piece count =

@@ -1,9 +1,6 @@
-// A piece of the log into memory.
+// A piece of a file into memory.
 ghost use Prim.Native.Nat.{_≤_};
 ghost use lib.ListN.{length};
-
-// A frame with the largest page: its header of 24 bytes and 65,536.
-pub const PIECE: usize = 65560;
 
 // What was read.
 pub struct Filled {
