@@ -1,0 +1,29 @@
+-- A page with a number of 32 bits begins below 2 ^ 48. Assumes nothing.
+use Prim.Native.Nat.{_-_, _*_, _≤_}
+use native.Mathlib.Nat.{mul-le-mul}
+use native.Mathlib.Omega.{arith}
+use borrow.Author.Needs.{needs}
+use Rattle.page_check.proofs.checking.page_start.Statement.{statement}
+use Rattle.page_check.proofs.checking.page_start.Tie as tie
+
+-- so many bytes at most stand before the page
+before : (c : tie.Start) → (c .args .number - 1) * c .args .page-size ≤ 4294967295 * 65536
+before c = mul-le-mul {n₂ = 4294967295} {m₂ = 65536} (omega arith) (omega arith)
+
+sub-result : tie.Need-sub-result
+sub-result c = search needs
+
+cast-result : tie.Need-cast-result
+cast-result c = search needs
+
+mul-result : tie.Need-mul-result
+mul-result c = omega (arith, before c)
+
+cast-result-2 : tie.Need-cast-result-2
+cast-result-2 c = omega (arith, before c)
+
+returns : tie.Need-returns
+returns c = search needs
+
+pub page-start-spec : {M : Type 1} → statement M
+page-start-spec = tie.close (tie.spec sub-result cast-result mul-result cast-result-2 returns)
