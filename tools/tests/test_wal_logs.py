@@ -14,6 +14,8 @@ import types
 import unittest
 from unittest import mock
 
+import planting
+
 TOP = os.path.dirname(os.path.dirname(os.path.dirname(os.path.abspath(__file__))))
 TOOL_PATH = os.path.join(TOP, 'tools/wal-logs')
 
@@ -166,14 +168,7 @@ FAULTS = {
 
 
 def faulty_source(fault):
-    with open(TOOL_PATH, encoding='utf-8') as file:
-        source = file.read()
-    if fault:
-        old, new = FAULTS[fault]
-        if source.count(old) != 1:
-            raise ValueError(f'{fault}: {old!r} does not stand once in the tool')
-        source = source.replace(old, new)
-    return source
+    return planting.source_with(fault, FAULTS, TOOL_PATH)
 
 
 def answering(fault=None):
