@@ -1,12 +1,11 @@
 /* Measures the proved scan of a log (crate bench_wal) beside a plain one in C (wal_scan.c): logs of 100 MB in memory, of random
  * pages, in either order of words and with two page sizes. The two take turns, and the least time of several rounds counts.
  * Both have to read the whole log, and to answer the same on cut and damaged logs. With --agree only that is looked at. */
-#define _POSIX_C_SOURCE 199309L
+#include "bench.h"
 #include "wal_scan.h"
 #include <stdio.h>
 #include <stdlib.h>
 #include <string.h>
-#include <time.h>
 
 enum { ROUNDS = 7, LENGTH = 100000000, HEADER = 32, FRAME = 24, NUMBERS = 7, DAMAGES = 2000, FEW = 12 };
 
@@ -16,23 +15,6 @@ struct log {
     uint32_t page_size;
     int big;
 };
-
-static double now(void)
-{
-    struct timespec t;
-    clock_gettime(CLOCK_MONOTONIC, &t);
-    return (double)t.tv_sec * 1e9 + (double)t.tv_nsec;
-}
-
-static uint64_t chance = 88172645463325252u;
-
-static uint64_t any(void)
-{
-    chance ^= chance << 13;
-    chance ^= chance >> 7;
-    chance ^= chance << 17;
-    return chance;
-}
 
 static void put4(uint8_t *at, uint32_t n)
 {
