@@ -2,25 +2,22 @@
 
 import contextlib
 import functools
-import importlib.machinery
 import io
 import os
 import re
 import struct
-import subprocess
 import sys
 import tempfile
 import types
 import unittest
 from unittest import mock
 
-import planting
+import sharing
 
 TOP = os.path.dirname(os.path.dirname(os.path.dirname(os.path.abspath(__file__))))
 TOOL_PATH = os.path.join(TOP, 'tools/page-images')
 
-sys.dont_write_bytecode = True
-TOOL = importlib.machinery.SourceFileLoader('page_images_tool', TOOL_PATH).load_module()
+TOOL = sharing.loaded(TOOL_PATH)
 
 # Made once: that takes a second.
 made_databases = functools.cache(TOOL.made_databases)
@@ -231,11 +228,11 @@ class Databases(unittest.TestCase):
     def test_not_as_asked(self):
         with self.assertRaisesRegex(SystemExit, 'other sizes'):
             TOOL.made_by(TOOL.Recipe('name', 1000, 0, 'VACUUM;\n'))
-        ask = TOOL.ask_sqlite
-        with mock.patch.object(TOOL, 'ask_sqlite', lambda folder, script: ask(folder, script)[:2]), \
+        ask = TOOL.comparing.ask_sqlite
+        with mock.patch.object(TOOL.comparing, 'ask_sqlite', lambda *words: ask(*words)[:2]), \
                 self.assertRaisesRegex(SystemExit, 'names no b-tree page'):
             TOOL.made_by(TOOL.Recipe('name', 512, 0, 'VACUUM;\n'))
-        with self.assertRaisesRegex(SystemExit, 'page-images: sqlite3: .*nosuch'):
+        with self.assertRaisesRegex(SystemExit, 'sqlite3: .*nosuch'):
             TOOL.made_by(TOOL.Recipe('name', 512, 0, 'SELECT nosuch;\n'))
 
     def test_holes(self):
@@ -369,12 +366,12 @@ FAULTS = {
 
 
 def faulty_source(fault):
-    return planting.source_with(fault, FAULTS, TOOL_PATH).split('# ── databases that SQLite makes', maxsplit=1)[0]
+    return sharing.source_with(fault, FAULTS, TOOL_PATH).split('# ── databases that SQLite makes', maxsplit=1)[0]
 
 
 # How a program gets its file; the tool's own checker says the rest.
 PROGRAM = '''
-def answer(folder, words):
+def answer(folder, *words):
     content, reason = b'', None
     try:
         if words:
@@ -402,7 +399,7 @@ def answering(fault=None):
 class Comparison(unittest.TestCase):
     @classmethod
     def setUpClass(cls):
-        cls.cases = list(TOOL.all_cases(made_databases(), TOOL.Choice(False, 1)))
+        cls.cases = list(TOOL.all_cases(made_databases(), TOOL.comparing.Choice(False, 1)))
 
     def test_right_program(self):
         counts = TOOL.compared(self.cases, answering())
@@ -472,16 +469,15 @@ class Showing(unittest.TestCase):
             'standard error, line 1', '    expected: (nothing)', '    given:    a message'])
 
 
-class Command(unittest.TestCase):
-    def command(self, *words):
-        return subprocess.run([TOOL_PATH, *words], capture_output=True, text=True, check=False)
+class Command(sharing.Words, unittest.TestCase):
+    path, program = TOOL_PATH, 'page_check'
 
     def test_program_with_a_fault(self):
         with tempfile.TemporaryDirectory() as folder:
             program = os.path.join(folder, 'program')
             with open(program, 'w', encoding='utf-8') as file:
                 file.write(faulty_source('header at 0 on page 1') + PROGRAM)
-                file.write('out, err = answer(".", sys.argv[1:])\nsys.stdout.buffer.write(out)\nsys.stderr.buffer.write(err)\n')
+                file.write('out, err = answer(".", *sys.argv[1:])\nsys.stdout.buffer.write(out)\nsys.stderr.buffer.write(err)\n')
             os.chmod(program, 0o755)
             run = self.command(program)
         self.assertEqual((run.returncode, run.stdout), (1, ''))
@@ -495,9 +491,9 @@ class Command(unittest.TestCase):
 
     def main(self, cases):
         out = io.StringIO()
-        with mock.patch.multiple(TOOL, all_cases=lambda databases, choice: cases, made_databases=list,
-                                 command_of=lambda program: [], runner=lambda command: answering()), \
-                mock.patch.object(sys, 'argv', ['page-images']), contextlib.redirect_stdout(out):
+        with mock.patch.multiple(TOOL, all_cases=lambda databases, choice: cases, made_databases=list), \
+                mock.patch.object(TOOL.comparing, 'asked_for', lambda name: (None, answering())), \
+                contextlib.redirect_stdout(out):
             try:
                 TOOL.main()
             except SystemExit as end:
@@ -525,17 +521,6 @@ class Command(unittest.TestCase):
         self.assertEqual(out.splitlines()[1].split(), ['a', 'kind', '3', '3'])
         self.assertNotIn('no difference', out)
         self.assertIn('page-images: nothing broke: length on page 1, ', status)
-
-    def test_no_program(self):
-        run = self.command('/nosuch/page_check')
-        self.assertEqual((run.returncode, run.stdout), (1, ''))
-        self.assertIn("/nosuch/page_check is not there; 'rt check page_check' proves and builds", run.stderr)
-
-    def test_bad_words(self):
-        for words in (['--some'], ['--seed', 'x'], ['one', 'two']):
-            run = self.command(*words)
-            self.assertEqual((run.returncode, run.stdout), (2, ''), words)
-            self.assertIn('usage: tools/page-images', run.stderr)
 
 
 if __name__ == '__main__':

@@ -2,25 +2,22 @@
 
 import contextlib
 import functools
-import importlib.machinery
 import io
 import os
 import re
 import struct
-import subprocess
 import sys
 import tempfile
 import types
 import unittest
 from unittest import mock
 
-import planting
+import sharing
 
 TOP = os.path.dirname(os.path.dirname(os.path.dirname(os.path.abspath(__file__))))
 TOOL_PATH = os.path.join(TOP, 'tools/wal-logs')
 
-sys.dont_write_bytecode = True
-TOOL = importlib.machinery.SourceFileLoader('wal_logs_tool', TOOL_PATH).load_module()
+TOOL = sharing.loaded(TOOL_PATH)
 ORDERS = (TOOL.LITTLE, TOOL.BIG)
 
 
@@ -168,7 +165,7 @@ FAULTS = {
 
 
 def faulty_source(fault):
-    return planting.source_with(fault, FAULTS, TOOL_PATH)
+    return sharing.source_with(fault, FAULTS, TOOL_PATH)
 
 
 def answering(fault=None):
@@ -190,7 +187,7 @@ def answering(fault=None):
 class Comparison(unittest.TestCase):
     @classmethod
     def setUpClass(cls):
-        cls.cases = list(TOOL.all_cases(made_logs(), TOOL.Choice(False, 1)))
+        cls.cases = list(TOOL.all_cases(made_logs(), TOOL.comparing.Choice(False, 1)))
         # For the time, SQLite isn't asked here, and what finds most faults comes first: a large log, and the short ones.
         quick = [case._replace(database=None, log=bytes(case.log)) for case in cls.cases]
         cls.quick_cases = sorted(quick, key=lambda case: (case.name != 'large 512', len(case.log)))
@@ -246,9 +243,8 @@ class Showing(unittest.TestCase):
         self.assertIn('given on standard error, from line 1 on:\n    a message\n', shown)
 
 
-class Command(unittest.TestCase):
-    def command(self, *words):
-        return subprocess.run([TOOL_PATH, *words], capture_output=True, text=True, check=False)
+class Command(sharing.Words, unittest.TestCase):
+    path, program = TOOL_PATH, 'wal_scan'
 
     def test_program_with_a_fault(self):
         with tempfile.TemporaryDirectory() as folder:
@@ -271,23 +267,12 @@ class Command(unittest.TestCase):
     def test_right_program(self):
         few = [TOOL.Case('a kind', 'a log', TOOL.Writer('<').frame(1, 1).log)] * 3
         out = io.StringIO()
-        with mock.patch.multiple(TOOL, all_cases=lambda logs, choice: few, made_logs=list, command_of=lambda program: [],
-                                 runner=lambda command: answering()), \
-                mock.patch.object(sys, 'argv', ['wal-logs']), contextlib.redirect_stdout(out):
+        with mock.patch.multiple(TOOL, all_cases=lambda logs, choice: few, made_logs=list), \
+                mock.patch.object(TOOL.comparing, 'asked_for', lambda name: (None, answering())), \
+                contextlib.redirect_stdout(out):
             TOOL.main()
         self.assertEqual(out.getvalue().splitlines()[1].split(), ['a', 'kind', '3', '0'])
         self.assertEqual(out.getvalue().splitlines()[-1], '6 logs compared, no difference')
-
-    def test_no_program(self):
-        run = self.command('/nosuch/wal_scan')
-        self.assertEqual((run.returncode, run.stdout), (1, ''))
-        self.assertIn("/nosuch/wal_scan is not there; 'rt check wal_scan' proves and builds", run.stderr)
-
-    def test_bad_words(self):
-        for words in (['--some'], ['--seed', 'x'], ['one', 'two']):
-            run = self.command(*words)
-            self.assertEqual((run.returncode, run.stdout), (2, ''), words)
-            self.assertIn('usage: tools/wal-logs', run.stderr)
 
 
 if __name__ == '__main__':
