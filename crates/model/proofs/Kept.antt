@@ -11,7 +11,7 @@ use Rattle.model.specs.Step.{tested, step, run}
 use Rattle.model.specs.Tests.{refusal}
 use Rattle.model.specs.Limits.{Kept, Proper, AllProper}
 use Rattle.model.proofs.KeptTests.{passes}
-use Rattle.model.proofs.KeptLeaves.{Unchanged, Leaves, leaves-same}
+use Rattle.model.proofs.KeptLeaves.{Refusal, Unchanged, Leaves, leaves-same}
 use Rattle.model.proofs.KeptRules.{act-leaves}
 pub use Rattle.model.proofs.KeptPages.{fresh-kept}
 pub use Rattle.model.proofs.KeptSize.{step-size}
@@ -40,6 +40,10 @@ listed-bound call c k = step-leaves call c k .listed
 -- the codes 11, 12, 13, 14, 15, 18 and 19 leave all unchanged
 pub high-code-unchanged : (call : Call) (c : Cache) → Kept c → 11 ≤ step call c .code → Unchanged c (step call c)
 high-code-unchanged call c k = step-leaves call c k .refused
+
+-- a refusal that lists nothing leaves all unchanged: a sweep that took no page changed nothing, and `clear` removes all or nothing
+pub unlisted-unchanged : (call : Call) (c : Cache) → Kept c → Refusal (step call c .code) → step call c .listed ≡ [] → step call c .cache ≡ c
+unlisted-unchanged call c k = step-leaves call c k .unlisted
 
 -- the key exists with another handle
 pub code-11-unchanged : (call : Call) (c : Cache) → Kept c → step call c .code ≡ 11

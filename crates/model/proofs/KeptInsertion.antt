@@ -3,7 +3,7 @@
 -- nor by a sweep, and a sweep that takes none changes nothing. Assumes nothing.
 use mathlib.Core.Bool.{true, false}
 use mathlib.Core.List.{List, [], _∷_, _++_}
-use mathlib.Core.Logic.{_≢_}
+use mathlib.Core.Logic.{_≢_, inl, inr}
 use mathlib.Core.Option.{Option, none, some}
 use mathlib.Core.Path.{_≡_, refl, _∙_}
 use Prim.Native.Nat.{ℕ, suc, _-_, _≤_, _<_, _^_}
@@ -102,7 +102,7 @@ module _ (key handle : ℕ) (state : PageRecord) where
         fits-kept c (enterRow p (c .row)) (countIn p (c .estimate)) k (count-in-range p (c .estimate) (k .estimate)) row
 
     place-leaves : (c : Cache) → Kept c → heldIn c < c .size → Absent (c .row) → Leaves c 0 Given (place key handle state c)
-    place-leaves c k room a = leaves-done c (place key handle state c) (omega arith) (omega arith) (place-kept c k room a)
+    place-leaves c k room a = leaves-done c (place key handle state c) (inl refl) (omega arith) (place-kept c k room a)
 
     forced-leaves : (c : Cache) → Kept c → Absent (c .row) → Leaves c 0 Given (onFull key handle state forced c)
     forced-leaves c k a = either (Leaves c 0 Given) (ltb (heldIn c) (c .size))
@@ -172,12 +172,12 @@ module _ (key handle : ℕ) (state : PageRecord) where
 
       exists-leaves : Leaves c (heldIn c) Given (keyExists key handle state (e .page) c)
       exists-leaves = either (Leaves c (heldIn c) Given) (eqb (e .page .handle) handle)
-          (λ _. leaves-done c _ (omega arith) (omega arith) (λ _. touch-kept c k key e s)) (λ _. leaves-same c 11 0 k)
+          (λ _. leaves-done c _ (inr refl) (omega arith) (λ _. touch-kept c k key e s)) (λ _. leaves-same c 11 0 k)
 
       present-leaves : (how : Insertion) → Leaves c (heldIn c) Given (present key handle state how (e .page) c)
       present-leaves plain = exists-leaves
       present-leaves forced = exists-leaves
-      present-leaves upsert = leaves-done c _ (omega arith) (omega arith)
+      present-leaves upsert = leaves-done c _ (inl refl) (omega arith)
           (λ g. upsert-kept c k key e s handle state (g .1) flags (g .2) (others .handles))
 
     pub insert-leaves : (how : Insertion) (c : Cache) → Kept c → underOther key handle (c .row) ≡ false

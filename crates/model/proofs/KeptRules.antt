@@ -2,6 +2,7 @@
 -- nothing was changed. Rule by rule, by the answers that the rule can give. Assumes nothing.
 use mathlib.Core.Bool.{Bool, true, false}
 use mathlib.Core.List.{List, [], _∷_, map, append-nil}
+use mathlib.Core.Logic.{inl}
 use mathlib.Core.Option.{Option, none, some}
 use mathlib.Core.Path.{_≡_, refl}
 use Prim.Native.Nat.{ℕ, suc, _≤_}
@@ -54,7 +55,7 @@ module _ {given : Type 0} (c : Cache) (k : Kept c) where
   delete-found-leaves key (some e) q = delete-leaves key 0 (omega arith) e (find-stands key (c .row) e q)
 
   hit-leaves : (key : ℕ) (e : Entry) → Stands key (c .row) e → Leaves c (heldIn c) given (hit key (e .page) c)
-  hit-leaves key e s = leaves-done c _ (omega arith) (omega arith) (λ _. touch-kept c k key e s)
+  hit-leaves key e s = leaves-done c _ (inl refl) (omega arith) (λ _. touch-kept c k key e s)
 
   lookup-leaves : (key : ℕ) (v : Option Entry) → find key (c .row) ≡ v → Leaves c (heldIn c) given (lookupFound key v c)
   lookup-leaves key none q = leaves-same c 4 0 k
@@ -81,16 +82,16 @@ module _ {given : Type 0} (c : Cache) (k : Kept c) where
       m = evict-makes capacity c k
 
       pending : Leaves c (heldIn c) given (following r (answer 10 0 (r .cache)))
-      pending = leaves-evicted c r m 10 (r .cache) (omega arith) (m .kept)
+      pending = leaves-evicted c r m 10 (r .cache) (omega arith) (λ _. refl) (m .kept)
 
       done : Leaves c (heldIn c) given (following r (answer 0 0 (withCapacity capacity (r .cache))))
-      done = leaves-evicted c r m 0 (withCapacity capacity (r .cache)) (omega arith)
+      done = leaves-evicted c r m 0 (withCapacity capacity (r .cache)) (omega arith) (λ no. absurd (no .not-done refl))
           (capacity-kept capacity (r .cache) (m .kept) (omega (arith, evictions-size (heldIn c) capacity c)))
 
   evict-one-leaves : (row : Row) → Leaves c (heldIn c) given (evictFrom row c)
   evict-one-leaves [] = leaves-same c 14 0 k
   evict-one-leaves (e ∷ es) = either (λ (o : Outcome). Leaves c (heldIn c) given (following r o)) (r .full)
-      (λ _. leaves-evicted c r m 8 (r .cache) (omega arith) (m .kept)) (λ _. leaves-evicted c r m 0 (r .cache) (omega arith) (m .kept))
+      (λ _. leaves-evicted c r m 8 (r .cache) (omega arith) (λ _. refl) (m .kept)) (λ _. leaves-evicted c r m 0 (r .cache) (omega arith) (λ _. refl) (m .kept))
     where
       r : Room
       r = sweeping c (sweepOf c .victim) (enough (evicted c))
@@ -100,7 +101,7 @@ module _ {given : Type 0} (c : Cache) (k : Kept c) where
 
   -- ── rule 11 ────────────────────────────────────────────────────────────────
   emptied-leaves : Leaves c (heldIn c) given (emptied c)
-  emptied-leaves = leaves-done c (emptied c) (omega arith) (simp (append-nil, length-map) (omega (arith, by-key-length (c .row))))
+  emptied-leaves = leaves-done c (emptied c) (inl refl) (simp (append-nil, length-map) (omega (arith, by-key-length (c .row))))
       (λ _. fits-kept c [] 0 k (omega arith) (record { held = omega arith; good = tt; slots = tt; keys = tt; handles = tt }))
 
   clear-leaves : (dirty-too : Bool) → Leaves c (heldIn c) given (onClear dirty-too c)
@@ -116,7 +117,7 @@ module _ {given : Type 0} (c : Cache) (k : Kept c) where
       → Leaves c (heldIn c) given (notified by v c)
   notified-leaves by range none = leaves-same c 0 0 k
   notified-leaves by range (some e) = either (Leaves c (heldIn c) given) (pageOne (e .page .key)) (λ _. leaves-same c 0 0 k)
-      (λ _. leaves-done c _ (omega arith) (omega arith) (λ _. fits-kept c (c .row) n k range (kept-fits c k)))
+      (λ _. leaves-done c _ (inl refl) (omega arith) (λ _. fits-kept c (c .row) n k range (kept-fits c k)))
     where
       n : ℕ
       n = by (c .estimate)
@@ -124,13 +125,13 @@ module _ {given : Type 0} (c : Cache) (k : Kept c) where
   write-leaves : (key : ℕ) (state : PageRecord) → (given → Fit state) → state .flags ≤ 31
       → (v : Option Entry) → find key (c .row) ≡ v → Leaves c (heldIn c) given (writeFound key state v c)
   write-leaves key state fit flags none q = leaves-same c 4 0 k
-  write-leaves key state fit flags (some e) q = leaves-done c (answer 0 0 (rewrite key state c)) (omega arith) (omega arith)
+  write-leaves key state fit flags (some e) q = leaves-done c (answer 0 0 (rewrite key state c)) (inl refl) (omega arith)
       (λ g. rewrite-kept c k key e (find-stands key (c .row) e q) state flags (fit g))
 
   -- ── rules 13 and 14 ────────────────────────────────────────────────────────
   selected-leaves : (ps : List Page) → length ps ≤ heldIn c → Leaves c (heldIn c) given (selected ps c)
   selected-leaves [] few = leaves-same c 19 0 k
-  selected-leaves (p ∷ ps) few = leaves-done c (selected (p ∷ ps) c) (omega arith)
+  selected-leaves (p ∷ ps) few = leaves-done c (selected (p ∷ ps) c) (inl refl)
       (omega (arith, length-append (map (λ (q : Page). q .handle) (p ∷ ps)) [], length-map (p ∷ ps) (λ (q : Page). q .handle)))
       (λ _. k)
 
@@ -168,12 +169,12 @@ delete-those-leaves : {given : Type 0} (test : Page → Bool) (c : Cache) → Ke
 delete-those-leaves {given} test c k =
     let ps : List Page = those test (byKey (c .row)) in
     let l : Leaves c (length ps) given (deleteEach ps c) = delete-each-leaves ps c k in
-    record { kept = l .kept; listed = omega (arith, l .listed, walk-length test (c .row)); refused = l .refused }
+    record { kept = l .kept; listed = omega (arith, l .listed, walk-length test (c .row)); refused = l .refused; unlisted = l .unlisted }
 
 -- ── every call that passed the tests ─────────────────────────────────────────
 pub act-leaves : (call : Call) (c : Cache) → Kept c → Passes call c → Leaves c (heldIn c) (Proper call) (act call c)
 unfolding act
-act-leaves (create capacity) c k t = leaves-done c (answer 0 0 (fresh (c .size) capacity)) (omega arith) (omega arith)
+act-leaves (create capacity) c k t = leaves-done c (answer 0 0 (fresh (c .size) capacity)) (inl refl) (omega arith)
     (λ _. fresh-kept (c .size) capacity (ltb-false (c .size) capacity (t .capacity)))
 act-leaves (insert how key handle state places) c k t =
     insert-leaves key handle state (ltb-false 31 (state .flags) (t .flags)) how c k (t .elsewhere)
@@ -190,4 +191,4 @@ act-leaves (write key state) c k t =
     write-leaves c k key state (λ fit. fit) (ltb-false 31 (state .flags) (t .flags)) (find key (c .row)) refl
 act-leaves (spill most places) c k t = spill-leaves c k most
 act-leaves (evict-one places) c k t = evict-one-leaves c k (c .row)
-act-leaves (switch on) c k t = leaves-done c (answer 0 0 (withSpill on c)) (omega arith) (omega arith) (λ _. switch-kept on c k)
+act-leaves (switch on) c k t = leaves-done c (answer 0 0 (withSpill on c)) (inl refl) (omega arith) (λ _. switch-kept on c k)

@@ -11,7 +11,7 @@ use Rattle.page.specs.Record.{dirty, stale, deletable}
 use Rattle.page.specs.declared.record.Deletable.{Deletable}
 use Rattle.page.specs.declared.record.Deletable.the-variants.{Yes, Locked, Dirty, Pinned}
 use Rattle.page.specs.declared.record.PageRecord.{PageRecord}
-use Rattle.model.specs.Row.{Page, Entry, Row, find, change, byKey, those}
+use Rattle.model.specs.Row.{Page, Entry, Row, find, change, byKey, those, total}
 use Rattle.model.specs.Sweep.{touched}
 use Rattle.model.specs.Cache.{Cache, heldIn, fresh, pageMayGo, up, down, leave, newPage, rewritten, replacedEntry}
 use Rattle.model.specs.Call.{Insertion, plain, forced, upsert, Call, create, insert, lookup, peek, delete, resize, truncate, remove-frames, clear, notify-dirty, notify-spilled, write, spill, evict-one, switch, Outcome, answer, listing, touching}
@@ -20,7 +20,7 @@ use Rattle.model.specs.Rooms.{Room, sweepOf, evicted, enough, sweeping, 
 use Rattle.model.specs.Rules.{deleting, deleteFound, place, onFull, admit, keyExists, present, insertFound, onInsert, hit, lookupFound, peekFound, onResize, deleteEach, newerThan, emptied, clearUnless, onClear, notified, writeFound, evictFrom}
 use Rattle.model.specs.Spill.{needsSpill, selection, selected, onSpill}
 use Rattle.model.specs.Step.{act, tested, step, run, runTouches, runFalls}
-use Rattle.model.proofs.Totals.{total, sweep-total, total-change, total-without, total-enter}
+use Rattle.model.proofs.Totals.{sweep-total, total-change, total-without, total-enter}
 
 -- of an outcome from a row: the uses that fell and those left are no more than the touches and the uses that were there
 record Balanced (row : Row) (o : Outcome) : Type 0 where

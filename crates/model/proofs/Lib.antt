@@ -22,4 +22,6 @@ pub mod KeptLeaves
 pub mod KeptInsertion
 pub mod KeptRules
 pub mod Kept
+pub mod Evictions
 pub mod Examples
+pub mod Exact

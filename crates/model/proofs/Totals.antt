@@ -7,16 +7,11 @@ use Prim.Native.Nat.{ℕ, zero, suc, _+_, _*_, _≤_}
 use native.Mathlib.Omega.{arith}
 use lib.ListN.{length}
 use Rattle.page.specs.Entry.{refMax}
-use Rattle.model.specs.Row.{Page, Entry, Row, keyed, change, without}
+use Rattle.model.specs.Row.{Page, Entry, Row, total, keyed, change, without}
 use Rattle.model.specs.Sweep.{pass, lower, goesNow, looks, sweep, falls, sweepFalls}
 use Rattle.model.specs.Cache.{enterRow}
 use Rattle.model.proofs.Lowering.{lower-le}
 use Rattle.model.proofs.Looks.{spent}
-
--- all the uses in a row
-unfoldable pub total : Row → ℕ
-total [] = 0
-total (e ∷ es) = e .uses + total es
 
 total-append : (xs ys : Row) → total (xs ++ ys) ≡ total xs + total ys
 unfolding total

@@ -5,8 +5,10 @@ pub mod Cache
 pub mod Call
 pub mod Tests
 pub mod Rooms
+pub mod Evictions
 pub mod Rules
 pub mod Spill
 pub mod Step
+pub mod Uses
 pub mod Limits
 pub mod Examples

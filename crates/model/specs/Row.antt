@@ -2,7 +2,7 @@
 use mathlib.Core.Bool.{Bool, true, false}
 use mathlib.Core.List.{List, [], _∷_}
 use mathlib.Core.Option.{Option, none, some}
-use Prim.Native.Nat.{ℕ}
+use Prim.Native.Nat.{ℕ, _+_}
 use lib.Dec.{eqb, ltb}
 use Rattle.page.specs.declared.record.PageRecord.{PageRecord}
 
@@ -24,6 +24,11 @@ Row = List Entry
 abbrev pub Each : (Entry → Type 0) → Row → Type 0
 Each P [] = Unit {0}
 Each P (e ∷ es) = P e × Each P es
+
+-- all its uses together
+unfoldable pub total : Row → ℕ
+total [] = 0
+total (e ∷ es) = e .uses + total es
 
 -- ── by key ───────────────────────────────────────────────────────────────────
 abbrev pub keyed : ℕ → Entry → Bool

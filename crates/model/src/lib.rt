@@ -12,10 +12,12 @@
 //     Call.antt       the calls with their arguments, and an outcome
 //     Tests.antt      which call is refused before any rule, and in what order
 //     Rooms.antt      rule 5: making room
+//     Evictions.antt  demand 3 of one eviction from a cache, and of several one after another
 //     Rules.antt      rules 6 to 11: insertion, lookup, deletion, resize, the sweeping deletions
 //     Spill.antt      rules 13 and 14
 //     Step.antt       every call: tests, then rules; runs of calls
+//     Uses.antt       demand 3's ledger: the touch of a call and its evictions, told from the cache before it
 //     Limits.antt     what a cache keeps from its creation on
-//     Examples.antt   01's sweeps to check by hand, as a table
+//     Examples.antt   01's sweeps to check by hand, and an example of each call and answer, as a table
 //
 // proofs/ has the theorems.
