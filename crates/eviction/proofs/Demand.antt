@@ -1,28 +1,30 @@
 -- One eviction comes to what demand 3 says. The sweep's answer is the model's (Turning), and the model's sweep takes the victim
--- or finds that none may go (model, Evicts). The victim is then the first of the row, and its removal leaves what demand 3
--- says. Assumes nothing.
+-- or finds that none may go, by demand 3 (model, Evictions). The victim is then the first of the row, and its removal leaves what
+-- the model's sweep leaves. Assumes nothing.
 use mathlib.Core.Path.{_≡_, refl, sym, ap, _∙_, subst}
 use mathlib.Core.Bool.{true, false}
 use mathlib.Core.List.{List, [], _∷_}
-use mathlib.Core.Option.{Option, none, some}
-use Prim.Native.Nat.{ℕ, _+_, _*_}
+use mathlib.Core.Option.{Option, none, some, Option·some-injective}
+use Prim.Native.Nat.{ℕ}
 use native.Mathlib.Omega.{arith}
 use lib.ListN.{length, getD}
 use borrow.Author.Tests.{eq-eqb}
 use Rattle.page.specs.declared.cache.PageCache.{PageCache}
 use Rattle.page.specs.declared.entry.PageCacheEntry.{PageCacheEntry}
 use Rattle.pool.specs.Slots.{blank, entries}
-use Rattle.model.specs.Cache.{Cache, withRow, withEstimate, pageMayGo, countOut, leave}
+use Rattle.model.specs.Cache.{Cache, withRow, withEstimate, pageMayGo, leave}
 use Rattle.model.specs.Demand.{Evicts, full, takes, taken, refused}
-use Rattle.model.specs.Rooms.{sweepOf}
+use Rattle.model.specs.Evictions.{OneGoes}
+use Rattle.model.specs.Rooms.{sweepOf, victimOut, evicted}
 use Rattle.model.specs.Row.{Page, Entry, Row, find, without}
 use Rattle.model.specs.Sweep.{Swept}
+use Rattle.model.proofs.Evictions.{goes}
 use Rattle.model.proofs.Evicts.{sweep-evicts, full-iff, full-unchanged}
 use Rattle.memory.specs.Memory.{Memory}
 use Rattle.memory.specs.Holds.{rowOf, Holds}
 use Rattle.memory.proofs.OnceKept.{holds-limited}
 use Rattle.eviction.specs.Sweep.{seenAt, comesTo}
-use Rattle.eviction.specs.Evict.{Takes, Refuses, afterTaking}
+use Rattle.eviction.specs.Evict.{Takes, Refuses}
 use Rattle.moves.specs.Moves.{StandsAt, Removable}
 use Rattle.eviction.specs.declared.sweeping.Swept as code
 use Rattle.eviction.proofs.Turning.{withSlots, withHand, row-from-hand, Ended, following, sweep-came, holds-turned}
@@ -84,8 +86,7 @@ module _ {m : Memory} {head : PageCache} {c : Cache} (H : Holds m head c) {slots
       let at-hand : Holds (withSlots slots′ m) head swept-cache =
       subst (λ (h : PageCache). Holds (withSlots slots′ m) h swept-cache) (λ i. withHand (record { 0 = hand i }) head) (holds-turned H d) in
       record {
-        none = full-iff pageMayGo (c .row) (holds-limited H) .0 none-taken;
-        passed = ap (λ (s : Swept). s .passed) unchanged;
+        none = record { stay = full-iff pageMayGo (c .row) (holds-limited H) .0 none-taken; rounds = ap (λ (s : Swept). s .passed) unchanged };
         holds = subst (Holds (withSlots slots′ m) head) (λ i. withRow (row i) c) at-hand;
       }
 
@@ -101,18 +102,15 @@ module _ {m : Memory} {head : PageCache} {c : Cache} (H : Holds m head c) {slots
       go : Evicts pageMayGo (c .row) (sweepOf c) → Takes c m′ (e .handle) (r .passed) head′
       go (full none-goes s) = absurd (not-both (ap (λ (x : Swept). x .victim) s) (ap (λ (x : Swept). x .victim) came))
       go (takes before v after parts victim s) =
-          let same : comesTo true es′ (r .at .0) rest (r .passed) ≡ taken pageMayGo before v after = sym came ∙ s in
-          let victims : some (end .page) ≡ some (v .page) = ap (λ (x : Swept). x .victim) same in
-          let page : end .page ≡ v .page = cc in
-          let row : without (end .page .key) (swept-cache .row) ≡ afterTaking before v after c .row =
-          first-without end (rowOf es′ rest) ∙ ap {B = Row} (λ (x : Swept). x .row) same in
+          let page : some (end .page) ≡ some (v .page) = ap (λ (x : Swept). x .victim) (sym came ∙ s) in
+          let handle : e .handle .0 ≡ v .page .handle =
+          ap (λ (x : PageCacheEntry). x .handle .0) loaded ∙ ap (λ (p : Page). p .handle) (Option·some-injective (end .page) (v .page) page) in
+          let passed : r .passed ≡ sweepOf c .passed = ap (λ (x : Swept). x .passed) (sym came) in
+          let row : without (end .page .key) (swept-cache .row) ≡ sweepOf c .row =
+          first-without end (rowOf es′ rest) ∙ ap {B = Row} (λ (x : Swept). x .row) (sym came) in
           record {
-            before = before;
-            v = v;
-            after = after;
-            parts = parts;
-            victim = victim;
-            handle = ap (λ (x : PageCacheEntry). x .handle .0) loaded ∙ ap (λ (p : Page). p .handle) page;
-            passed = ap (λ (x : Swept). x .passed) same ∙ ap (λ (l : Row). v .uses * length l + length before) (sym parts);
-            holds = subst (Holds m′ head′) (λ i. withEstimate (countOut (page i) (c .estimate)) (withRow (row i) c)) H′;
+            left = evicted c;
+            goes = subst (λ (n : ℕ). OneGoes c n (r .passed) (evicted c)) (sym handle)
+                (subst (λ (n : ℕ). OneGoes c (v .page .handle) n (evicted c)) (sym passed) (goes c (holds-limited H) before v after parts victim s));
+            holds = subst (Holds m′ head′) (λ i. withEstimate (victimOut (sym came i .victim) (c .estimate)) (withRow (row i) c)) H′;
           }

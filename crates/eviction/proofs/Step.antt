@@ -1,17 +1,17 @@
 -- One eviction is one sweep of the model: demand 3 allows one outcome, and the model's sweep has it. Assumes nothing.
 use mathlib.Core.Path.{_≡_, refl, sym, ap, _∙_, subst}
 use mathlib.Core.Option.{none, some}
-use Prim.Native.Nat.{ℕ, suc, _+_, _*_, _<_}
-use lib.ListN.{length}
+use Prim.Native.Nat.{ℕ, suc, _*_, _<_}
 use Rattle.page.specs.Entry.{refMax}
 use Rattle.page.specs.declared.cache.PageCache.{PageCache}
 use Rattle.page.specs.declared.names.PageHandle.{PageHandle}
 use Rattle.model.specs.Cache.{Cache, heldIn, withRow, withEstimate, pageMayGo}
-use Rattle.model.specs.Demand.{full, takes, taken, refused}
+use Rattle.model.specs.Demand.{full, refused}
 use Rattle.model.specs.Rooms.{sweepOf, victimOut, evicted}
-use Rattle.model.specs.Row.{Page, Row}
+use Rattle.model.specs.Row.{Page}
 use Rattle.model.specs.Sweep.{Swept}
-use Rattle.model.proofs.Evicts.{evicts-once, passed-bound}
+use Rattle.model.proofs.Evictions.{goes-is-the-sweep}
+use Rattle.model.proofs.Evicts.{evicts-once}
 use Rattle.memory.specs.Memory.{Memory}
 use Rattle.memory.specs.Holds.{Holds}
 use Rattle.memory.proofs.OnceKept.{holds-limited}
@@ -51,26 +51,24 @@ SweepEvicted c m′ head (Full passed) = FullSweep c m′ passed head
 module _ {m : Memory} {head : PageCache} {c : Cache} (H : Holds m head c) where
   pub took-is-the-sweep : {m′ : Memory} {gone : PageHandle} {count : ℕ} {head′ : PageCache} → Takes c m′ gone count head′
       → TookSweep c m′ gone count head′
-  unfolding taken
   took-is-the-sweep {m′} {gone} {count} {head′} t =
-      let came : taken pageMayGo (t .before) (t .v) (t .after) ≡ sweepOf c =
-      evicts-once pageMayGo (c .row) _ (holds-limited H) (takes (t .before) (t .v) (t .after) (t .parts) (t .victim) refl) in
+      let s = goes-is-the-sweep c (holds-limited H) (t .goes) in
       record {
-        page = t .v .page;
-        victim = ap (λ (s : Swept). s .victim) (sym came);
-        handle = t .handle;
-        passed = t .passed ∙ ap (λ (l : Row). t .v .uses * length l + length (t .before)) (t .parts) ∙ ap (λ (s : Swept). s .passed) came;
-        holds = subst (Holds m′ head′) (λ i. withEstimate (victimOut (came i .victim) (c .estimate)) (withRow (came i .row) c)) (t .holds);
+        page = s .page;
+        victim = s .victim;
+        handle = s .handle;
+        passed = s .passed;
+        holds = subst (Holds m′ head′) (s .cache) (t .holds);
       }
 
   pub full-is-the-sweep : {m′ : Memory} {count : ℕ} → Refuses c m′ count head → FullSweep c m′ count head
   unfolding refused
   full-is-the-sweep {m′} t =
-      let came : refused pageMayGo (c .row) ≡ sweepOf c = evicts-once pageMayGo (c .row) _ (holds-limited H) (full (t .none) refl) in
+      let came : refused pageMayGo (c .row) ≡ sweepOf c = evicts-once pageMayGo (c .row) _ (holds-limited H) (full (t .none .stay) refl) in
       let same : c ≡ evicted c = λ i. withEstimate (victimOut (came i .victim) (c .estimate)) (withRow (came i .row) c) in
       record {
         victim = ap (λ (s : Swept). s .victim) (sym came);
-        passed = t .passed ∙ ap (λ (s : Swept). s .passed) came;
+        passed = t .none .rounds ∙ ap (λ (s : Swept). s .passed) came;
         unchanged = sym same;
         holds = subst (Holds m′ head) same (t .holds);
       }
@@ -82,6 +80,4 @@ module _ {m : Memory} {head : PageCache} {c : Cache} (H : Holds m head c) where
   -- fewer than 4n pages were passed
   pub took-passed-bound : {m′ : Memory} {gone : PageHandle} {count : ℕ} {head′ : PageCache} → Takes c m′ gone count head′
       → count < suc refMax * heldIn c
-  took-passed-bound t =
-      let s = took-is-the-sweep t in
-      rw (s .passed) (passed-bound pageMayGo (c .row) (s .page) (holds-limited H) (s .victim))
+  took-passed-bound t = t .goes .under

@@ -116,7 +116,7 @@ module _ {m : Memory} {head : PageCache} {list : List ℕ} {from target : ℕ} {
       pub underway-full-sum : passed + n ≤ suc refMax * maxSlots * maxSlots
       underway-full-sum =
           let H = known .holds in
-          omega (arith, u .small, full (known .now) H .passed, holds-held H, held-most H)
+          omega (arith, u .small, full (known .now) H .none .rounds, holds-held H, held-most H)
 
       pub underway-full : (c : Cache) → Holds m head c
           → Made (evictTo target c) list from m″ list′ (record { full = true; passed = passed + n; listed = count; head = head′ })
