@@ -17,7 +17,7 @@ use Rattle.memory.specs.Holds.{Sound}
 use Rattle.answer.specs.Answer.{plainly}
 use Rattle.answer.specs.declared.answer.Answer.the-variants.{NotSound, BadReplay}
 use Rattle.answer.specs.declared.answered.Answered.{Answered}
-use Rattle.contract.specs.Called.{State, Called, refuses, acts}
+use Rattle.contract.specs.Called.{State, Called, refuses, acts, Typed}
 use Rattle.replay_record.specs.Fields.{decoded}
 use Rattle.replay_record.specs.Request.{Request, none, creation, call, operations, requestOf, requestIn}
 use Rattle.replay_record.specs.declared.record.Record.{Record}
@@ -104,9 +104,9 @@ module _ {bytes : List ℕ} {before : State} {head : PageCache} {after : State} 
 
   module _ {asked : Record} (is : decoded bytes ≡ Good asked) {ready : Bool}
       (test : Tells ready (Runnable (asked .operation) (before .memory) head)) where
-    pub applied-unsound : not ready ≡ true → Wide (after .memory .marks) → after ≡ before → r ≡ plainly NotSound head
+    pub applied-unsound : not ready ≡ true → Typed (before .memory) head → after ≡ before → r ≡ plainly NotSound head
         → Applied bytes before head after r
-    applied-unsound failed wide same told = applied-as (Good asked) is (go (requestOf asked (length (before .list))) refl)
+    applied-unsound failed typed same told = applied-as (Good asked) is (go (requestOf asked (length (before .list))) refl)
       where
         call-of : (x : Request) → requestOf asked (length (before .list)) ≡ x → (IsCall x → ⊥) → ⊥
         call-of x q other = fails test failed (record {
@@ -116,10 +116,14 @@ module _ {bytes : List ℕ} {before : State} {head : PageCache} {after : State} 
         go : (x : Request) → requestOf asked (length (before .list)) ≡ x → Meets x before head after r
         go none q = absurd (call-of none q (λ p. p))
         go (creation n) q = absurd (call-of (creation n) q (λ p. p))
-        go (call x) q = record { wide = wide; does = refuses (λ s. fails test failed (record { sound = λ _ _. s })) same told }
+        go (call x) q = record {
+          typed = typed;
+          wide = subst (λ (s : State). Wide (s .memory .marks)) (sym same) (typed .marks);
+          does = refuses (λ s. fails test failed (record { sound = λ _ _. s })) same told;
+        }
 
-    pub applied-ran : not ready ≡ false → Wide (after .memory .marks) → Ran asked before head after r → Applied bytes before head after r
-    applied-ran passed wide ran = applied-as (Good asked) is (go (requestOf asked (length (before .list))) refl (ran .runs))
+    pub applied-ran : not ready ≡ false → Typed (before .memory) head → Wide (after .memory .marks) → Ran asked before head after r → Applied bytes before head after r
+    applied-ran passed typed wide ran = applied-as (Good asked) is (go (requestOf asked (length (before .list))) refl (ran .runs))
       where
         go : (x : Request) → requestOf asked (length (before .list)) ≡ x → Runs x before head after r → Meets x before head after r
         go none q runs = runs
@@ -128,4 +132,4 @@ module _ {bytes : List ℕ} {before : State} {head : PageCache} {after : State} 
             let one : IsCall (requestOf asked (length (before .list))) = subst IsCall (sym q) tt in
             let sound : Sound (before .memory) head =
             passes test passed .sound (call-least asked (length (before .list)) one) (call-most asked (length (before .list)) one) in
-            record { wide = wide; does = acts sound runs }
+            record { typed = typed; wide = wide; does = acts sound runs }

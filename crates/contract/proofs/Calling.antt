@@ -2,7 +2,8 @@
 use mathlib.Core.Bool.{Bool, true, false, not}
 use mathlib.Core.List.{List}
 use mathlib.Core.Path.{_≡_, refl}
-use Prim.Native.Nat.{ℕ}
+use Prim.Native.Nat.{ℕ, _<_, _^_}
+use lib.ListN.{getD}
 use Rattle.page.specs.declared.cache.PageCache.{PageCache}
 use Rattle.free_marks.specs.Marks.{Wide}
 use Rattle.pool.specs.Tells.{Tells}
@@ -15,13 +16,18 @@ use Rattle.memory.specs.Holds.{Holds, Sound}
 use Rattle.answer.specs.Answer.{Comes, plainly}
 use Rattle.answer.specs.declared.answer.Answer.the-variants.{NotSound}
 use Rattle.answer.specs.declared.answered.Answered.{Answered}
-use Rattle.contract.specs.Called.{lent, refuses, acts, Called}
+use Rattle.contract.specs.Called.{lent, refuses, acts, Typed, Called}
+
+-- words of 64 bits, and an estimate of 32: what is lent is of its types
+pub lent-typed : {m : Memory} {head : PageCache} → ((k : ℕ) → getD (m .slots) k 0 < 2 ^ 64) → ((k : ℕ) → getD (m .marks) k 0 < 2 ^ 64)
+    → head .estimate < 2 ^ 32 → Typed m head
+lent-typed slots marks estimate = record { slots = record { each = slots }; marks = record { each = marks }; estimate = estimate }
 
 module _ {call : Call} {m : Memory} {head : PageCache} {sound : Bool} (told : Tells sound (Sound m head)) where
-  pub call-refused : {list : List ℕ} {r : Answered} → Wide (m .marks) → not sound ≡ true → r ≡ plainly NotSound head
+  pub call-refused : {list : List ℕ} {r : Answered} → Typed m head → not sound ≡ true → r ≡ plainly NotSound head
       → Called call (lent m list) head (lent m list) r
-  call-refused wide t q = record { wide = wide; does = refuses (fails told t) refl q }
+  call-refused typed t q = record { typed = typed; wide = typed .marks; does = refuses (fails told t) refl q }
 
-  pub call-acted : {m′ : Memory} {list list′ : List ℕ} {r : Answered} → Wide (m′ .marks) → not sound ≡ false
+  pub call-acted : {m′ : Memory} {list list′ : List ℕ} {r : Answered} → Typed m head → Wide (m′ .marks) → not sound ≡ false
       → ((c : Cache) → Holds m head c → Comes (step call c) list m′ list′ r) → Called call (lent m list) head (lent m′ list′) r
-  call-acted wide t done = record { wide = wide; does = acts (passes told t) done }
+  call-acted typed wide t done = record { typed = typed; wide = wide; does = acts (passes told t) done }

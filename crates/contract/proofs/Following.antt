@@ -1,13 +1,12 @@
 -- From creation on, memory that only calls changed holds what the model's run of those calls comes to, so that what is proved
--- of runs, the ledger of uses among it, is proved of the memory. Assumes nothing.
+-- of runs is proved of the memory. Assumes nothing.
 use mathlib.Core.List.{List, [], _∷_, _++_}
 use mathlib.Core.Path.{_≡_, refl, sym, subst}
-use Prim.Native.Nat.{ℕ, _≤_}
+use Prim.Native.Nat.{ℕ}
 use Rattle.page.specs.declared.cache.PageCache.{PageCache}
 use Rattle.model.specs.Cache.{Cache, fresh}
 use Rattle.model.specs.Call.{Call}
-use Rattle.model.specs.Step.{step, run, runTouches, runFalls}
-use Rattle.model.proofs.Ledger.{falls-le-touches}
+use Rattle.model.specs.Step.{step, run}
 use Rattle.memory.specs.Memory.{Memory}
 use Rattle.memory.specs.Holds.{Holds, Sound}
 use Rattle.contract.specs.Called.{State, Does, refuses, acts, Called, History, created, called}
@@ -32,9 +31,3 @@ history-holds {size} {capacity} (called {calls} {m} {m′} {head} {list} {list�
 -- it is sound, and stays so: no call ever answers 1 on it
 pub history-sound : {size capacity : ℕ} {calls : List Call} {m : Memory} {head : PageCache} → History size capacity calls m head → Sound m head
 history-sound past = record { cache = _; holds = history-holds past }
-
--- demand 3: over any calls on one cache since its creation, its memory changed by nothing else, sweeps take away no more uses
--- than there were touches
-pub history-ledger : {size capacity : ℕ} {calls : List Call} {m : Memory} {head : PageCache} → History size capacity calls m head
-    → runFalls calls (fresh size capacity) ≤ runTouches calls (fresh size capacity)
-history-ledger {size} {capacity} {calls} past = falls-le-touches size capacity calls

@@ -1,8 +1,7 @@
 -- What a public call does, to any memory (01, "Answer codes" and "What the contracts have to say"). Assumes nothing.
 use mathlib.Core.List.{List, [], _∷_, _++_}
 use mathlib.Core.Path.{_≡_}
-use Prim.Native.Nat.{ℕ, _≤_}
-use lib.ListN.{length}
+use Prim.Native.Nat.{ℕ, _<_, _^_}
 use Rattle.page.specs.declared.cache.PageCache.{PageCache}
 use Rattle.free_marks.specs.Marks.{Wide}
 use Rattle.model.specs.Cache.{Cache, fresh}
@@ -30,10 +29,23 @@ pub data Does (call : Call) (before : State) (head : PageCache) (after : State) 
       → ((c : Cache) → Holds (before .memory) head c → Comes (step call c) (before .list) (after .memory) (after .list) r)
       → Does call before head after r
 
--- the contract of a public call; the marks are numbers of 64 bits, as the lent slice is one of such numbers
+-- what is lent is of its types: slots and marks are numbers of 64 bits, and the estimate is one of 32
+pub record Typed (m : Memory) (head : PageCache) : Type 0 where
+  pub slots : Wide (m .slots)
+  pub marks : Wide (m .marks)
+  pub estimate : head .estimate < 2 ^ 32
+
+-- the contract of a public call
 pub record Called (call : Call) (before : State) (head : PageCache) (after : State) (r : Answered) : Type 0 where
+  pub typed : Typed (before .memory) head
+  -- the marks stay numbers of 64 bits
   pub wide : Wide (after .memory .marks)
   pub does : Does call before head after r
+
+-- nothing is altered: neither memory nor list, and the head comes back as it was
+pub record Unaltered (before : State) (head₀ : PageCache) (after : State) (r : Answered) : Type 0 where
+  pub state : after ≡ before
+  pub head : r .head ≡ head₀
 
 -- ── from creation ────────────────────────────────────────────────────────────
 -- the memory and the head after calls, one after another, on memory that nothing else changed since its creation
