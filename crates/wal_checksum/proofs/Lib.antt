@@ -1,3 +1,4 @@
 pub mod Agreeing
 pub mod Shifting
 mod Summing
+mod Wrapping

@@ -1,8 +1,9 @@
 // The two sums.
 use crate::number::number_at;
 use crate::number::word_at;
+use std::num::wrapping_add_u32;
 ghost use mathlib.Core.Path.{_≡_};
-ghost use Prim.Native.Nat.{_+_, _*_, _≤_, _%_, _^_};
+ghost use Prim.Native.Nat.{_+_, _*_, _≤_};
 ghost use lib.ListN.{length};
 ghost use Rattle.wal_checksum.specs.Checksum.{sameSums, sumsAt, paired, checksum};
 
@@ -48,25 +49,11 @@ pub fn checksum(bytes: &[u8], at: usize, pairs: usize, big: bool, sums: Sums) ->
     s
 }
 
-// One turn of the document's loop: s0 += x + s1, then s1 += y + s0. Three numbers of 32 bits can't overflow 64, and the compiler
-// makes additions of 32 bits of it.
+// One turn of the document's loop: s0 += x + s1, then s1 += y + s0. Every addition wraps at 2^32.
 fn add_pair(x: u32, y: u32, s: Sums) -> Sums
     ensures { λ r. ⌜ r ≡ paired x y s ⌝ }
 {
-    let s0 = wrapped(wide(s.s0) + (wide(x) + wide(s.s1)));
-    let s1 = wrapped(wide(s.s1) + (wide(y) + wide(s0)));
+    let s0 = wrapping_add_u32(s.s0, wrapping_add_u32(x, s.s1));
+    let s1 = wrapping_add_u32(s.s1, wrapping_add_u32(y, s0));
     Sums { s0, s1 }
-}
-
-// The lowest 32 bits.
-fn wrapped(n: u64) -> u32
-    ensures { λ r. ⌜ r ≡ n % 2 ^ 32 ⌝ }
-{
-    (n % 4294967296) as u32
-}
-
-fn wide(n: u32) -> u64
-    ensures { λ r. ⌜ r ≡ n ⌝ }
-{
-    n as u64
 }
