@@ -3,6 +3,7 @@
 mod binary;
 mod compare;
 mod differences;
+mod document;
 mod files;
 mod generators;
 mod marks;
