@@ -7,8 +7,9 @@
 //     crate calls_sweep    resize, evict_one
 //     crate calls_spill    check_spill
 //     crate calls_walk     clear, truncate, delete_clean_pages_after_wal_frame
-//     crate soundness      create, and the test that every other call begins with
-//     crate listing        the listing of the pool
+//     crate creating       create
+//     crate soundness      is_sound: the test that every call but create begins with
+//     crate listing        list_numbers, list_pages: the listing of the pool
 //
 // Each call tests the memory, refuses with 1 if it is not sound, and otherwise calls the function of the same name that
 // stands on sound memory. What callers may rely on is `Called`, in crate contract.
