@@ -7,7 +7,7 @@ use lib.ListN.{length}
 use Rattle.page.specs.declared.cache.PageCache.{PageCache}
 use Rattle.memory.specs.Memory.{Memory}
 use Rattle.memory.specs.Holds.{Sound}
-use Rattle.creating.specs.Creation.{Creates}
+use Rattle.creating.specs.Creation.{done, too-large, bad-lengths, Creates}
 use Rattle.creating.specs.declared.creating.Created.{Created}
 use Rattle.creating.specs.declared.creating.Created.the-variants.{Done, BadLengths, TooLarge}
 use Rattle.answer.specs.declared.answered.Answered.{Answered}
@@ -18,9 +18,9 @@ use Rattle.dispatch.specs.Runs.{answeredAs, Runs, Ran}
 
 created-sound : (m : Memory) (head : PageCache) (capacity : ℕ) (made : Created) (m′ : Memory) → Sound m head → Creates m capacity made m′
     → Sound m′ (answeredAs made head .head)
-created-sound m head capacity (Done new) m′ s w = record { cache = _; holds = w .holds }
-created-sound m head capacity BadLengths m′ s w = subst (λ (t : Memory). Sound t head) (sym (w .memory)) s
-created-sound m head capacity TooLarge m′ s w = subst (λ (t : Memory). Sound t head) (sym (w .memory)) s
+created-sound m head capacity (Done new) m′ s (done w) = record { cache = _; holds = w .holds }
+created-sound m head capacity BadLengths m′ s (bad-lengths w) = subst (λ (t : Memory). Sound t head) (sym (w .memory)) s
+created-sound m head capacity TooLarge m′ s (too-large w) = subst (λ (t : Memory). Sound t head) (sym (w .memory)) s
 
 module _ (before : State) (head : PageCache) (after : State) (r : Answered) where
   runs-sound : (x : Request) → Sound (before .memory) head → Runs x before head after r → Sound (after .memory) (r .head)

@@ -19,7 +19,7 @@ use Rattle.answer.specs.Answer.{Wrote, Comes}
 use Rattle.answer.specs.declared.answer.Answer.the-variants as answers
 use Rattle.answer.proofs.Steps.{plain-follows, listing-follows, comes-as}
 use Rattle.soundness.specs.Checks.{Agreeing}
-use Rattle.creating.specs.Creation.{CreatedWell, Creates}
+use Rattle.creating.specs.Creation.{CreatedWell, done, too-large, bad-lengths, Creates}
 use Rattle.creating.specs.declared.creating.Created.{Created}
 use Rattle.creating.specs.declared.creating.Created.the-variants.{Done, BadLengths, TooLarge}
 use Rattle.clearing.specs.Clear.{walked, handlesOf}
@@ -53,8 +53,8 @@ agreeing {m} H = record {
 module _ {m : Memory} {head : PageCache} {c : Cache} (H : Holds m head c) where
   pub never-refused : (m′ : Memory) (r : Created) → Creates m (head .capacity) r m′ → IsDone r
   never-refused m′ (Done new) made = record { new = new; done = refl }
-  never-refused m′ BadLengths refused = absurd (refused .lengths (agreeing H))
-  never-refused m′ TooLarge refused = absurd (omega (arith, refused .above, H .headed .capacity, H .limits .capacity, H .lengths .by-key))
+  never-refused m′ BadLengths (bad-lengths refused) = absurd (refused .lengths (agreeing H))
+  never-refused m′ TooLarge (too-large refused) = absurd (omega (arith, refused .above, H .headed .capacity, H .limits .capacity, H .lengths .by-key))
 
   module _ {m′ : Memory} {new : PageCache} (made : CreatedWell m (head .capacity) new m′) where
     holds-fresh : Holds m′ new (fresh (c .size) (c .capacity))
@@ -83,4 +83,7 @@ module _ {m : Memory} {head : PageCache} {c : Cache} (H : Holds m head c) where
 -- once creation has answered
 pub says-done : (m : Memory) (capacity : ℕ) (r : Created) (m′ : Memory) {new : PageCache} → r ≡ Done new → Creates m capacity r m′
     → CreatedWell m capacity new m′
-says-done m capacity r m′ = subst (λ (x : Created). Creates m capacity x m′)
+says-done m capacity r m′ {new} is made = of-done (subst (λ (x : Created). Creates m capacity x m′) is made)
+  where
+    of-done : Creates m capacity (Done new) m′ → CreatedWell m capacity new m′
+    of-done (done well) = well

@@ -2,6 +2,7 @@
 -- the three answers of a creation exclude each other, so that there is one outcome. Assumes nothing.
 use mathlib.Core.Path.{_≡_, refl, sym, ap, _∙_, subst}
 use mathlib.Core.List.{List, [], _∷_, _++_, append-nil}
+use mathlib.Core.Option.{Option, none, some, Option·some-injective}
 use Prim.Native.Nat.{ℕ, zero, suc, _+_, _*_, _-_, _/_, _%_, _^_, _≤_, _<_}
 use native.Mathlib.Nat.{one-mul, not-suc-le-zero}
 use native.Mathlib.Decide.{ℕ-discrete}
@@ -24,7 +25,7 @@ use Rattle.model.specs.Cache.{fresh}
 use Rattle.memory.specs.Memory.{Memory}
 use Rattle.memory.specs.Holds.{Holds}
 use Rattle.soundness.specs.Checks.{Agreeing, MarksFit}
-use Rattle.creating.specs.Creation.{lastMarks, freeMarks, freshMemory, CreatedWell, Creates}
+use Rattle.creating.specs.Creation.{lastMarks, freeMarks, freshMemory, CreatedWell, codeOf, headOf, Given, done, too-large, bad-lengths, Creates}
 use Rattle.creating.specs.declared.creating.Created.{Created}
 use Rattle.creating.specs.declared.creating.Created.the-variants.{Done, BadLengths, TooLarge}
 use Rattle.soundness.proofs.Bits.{digit-shifted}
@@ -229,18 +230,36 @@ created-well {m} {m′} {capacity} {head} a within slots keys handles marks new 
           (fresh-holds (length (m .by-key)) capacity (a .some) (a .most) within));
     }
 
+-- the number and the head tell the answer
+answer-told : (r r′ : Created) → codeOf r ≡ codeOf r′ → headOf r ≡ headOf r′ → r ≡ r′
+answer-told (Done h) (Done h′) code head = ap Done (Option·some-injective h h′ head)
+answer-told (Done h) BadLengths code head = absurd (omega (arith, code))
+answer-told (Done h) TooLarge code head = absurd (omega (arith, code))
+answer-told BadLengths (Done h′) code head = absurd (omega (arith, code))
+answer-told BadLengths BadLengths code head = refl
+answer-told BadLengths TooLarge code head = absurd (omega (arith, code))
+answer-told TooLarge (Done h′) code head = absurd (omega (arith, code))
+answer-told TooLarge BadLengths code head = absurd (omega (arith, code))
+answer-told TooLarge TooLarge code head = refl
+
 -- two outcomes that are allowed for one memory and one capacity are the same
 pub record SameCreation (r : Created) (m : Memory) (r′ : Created) (m′ : Memory) : Type 0 where
   pub answer : r ≡ r′
   pub memory : m ≡ m′
 
 pub created-same : (m : Memory) (capacity : ℕ) (r r′ : Created) (n n′ : Memory) → Creates m capacity r n → Creates m capacity r′ n′ → SameCreation r n r′ n′
-created-same m capacity (Done h) (Done h′) n n′ p q = record { answer = ap Done (p .new ∙ sym (q .new)); memory = p .memory ∙ sym (q .memory) }
-created-same m capacity (Done h) BadLengths n n′ p q = absurd (q .lengths (p .lengths))
-created-same m capacity (Done h) TooLarge n n′ p q = absurd (omega (arith, p .within, q .above))
-created-same m capacity BadLengths (Done h′) n n′ p q = absurd (p .lengths (q .lengths))
-created-same m capacity BadLengths BadLengths n n′ p q = record { answer = refl; memory = p .memory ∙ sym (q .memory) }
-created-same m capacity BadLengths TooLarge n n′ p q = absurd (p .lengths (q .lengths))
-created-same m capacity TooLarge (Done h′) n n′ p q = absurd (omega (arith, q .within, p .above))
-created-same m capacity TooLarge BadLengths n n′ p q = absurd (q .lengths (p .lengths))
-created-same m capacity TooLarge TooLarge n n′ p q = record { answer = refl; memory = p .memory ∙ sym (q .memory) }
+created-same m capacity r r′ n n′ p q =
+    let same : (codeOf r ≡ codeOf r′) × (headOf r ≡ headOf r′) × (n ≡ n′) = given-same p q in
+    record { answer = answer-told r r′ (same .0) (same .1); memory = same .2 }
+  where
+    given-same : {code code′ : ℕ} {head head′ : Option PageCache} → Given m capacity n code head → Given m capacity n′ code′ head′
+        → (code ≡ code′) × (head ≡ head′) × (n ≡ n′)
+    given-same (done p) (done q) = (refl, ap some (p .new ∙ sym (q .new)), p .memory ∙ sym (q .memory))
+    given-same (done p) (too-large q) = absurd (omega (arith, p .within, q .above))
+    given-same (done p) (bad-lengths q) = absurd (q .lengths (p .lengths))
+    given-same (too-large p) (done q) = absurd (omega (arith, q .within, p .above))
+    given-same (too-large p) (too-large q) = (refl, refl, p .memory ∙ sym (q .memory))
+    given-same (too-large p) (bad-lengths q) = absurd (q .lengths (p .lengths))
+    given-same (bad-lengths p) (done q) = absurd (p .lengths (q .lengths))
+    given-same (bad-lengths p) (too-large q) = absurd (p .lengths (q .lengths))
+    given-same (bad-lengths p) (bad-lengths q) = (refl, refl, p .memory ∙ sym (q .memory))

@@ -1,6 +1,7 @@
 -- Creation (01, rule 1 and codes 0, 15 and 16): what is answered, and every word of what is left. Assumes nothing.
 use mathlib.Core.Path.{_≡_}
 use mathlib.Core.List.{List, [], _∷_, _++_}
+use mathlib.Core.Option.{Option, none, some}
 use Prim.Native.Nat.{ℕ, zero, suc, _+_, _*_, _-_, _/_, _%_, _^_, _≤_, _<_}
 use lib.ListN.{length, replicate}
 use Rattle.page.specs.Cache.{created}
@@ -51,14 +52,25 @@ pub record RefusedCapacity (m : Memory) (capacity : ℕ) (m′ : Memory) : Type 
   pub above : length (m .by-key) < capacity
   pub memory : m′ ≡ m
 
--- what a creation may answer and leave
-abbrev pub Creates : Memory → ℕ → Created → Memory → Type 0
-Creates m capacity (Done head) m′ = CreatedWell m capacity head m′
-Creates m capacity BadLengths m′ = RefusedLengths m m′
-Creates m capacity TooLarge m′ = RefusedCapacity m capacity m′
-
--- the number of the answer
+-- ── the promise ──────────────────────────────────────────────────────────────
+-- 01's number for an answer
 abbrev pub codeOf : Created → ℕ
 codeOf (Done head) = 0
 codeOf BadLengths = 16
 codeOf TooLarge = 15
+
+-- the head that comes with it
+abbrev pub headOf : Created → Option PageCache
+headOf (Done head) = some head
+headOf BadLengths = none
+headOf TooLarge = none
+
+-- 01's table for a creation: what it means that a number is given, with a head or without one. No other number is given
+pub data Given (m : Memory) (capacity : ℕ) (m′ : Memory) : (code : ℕ) → Option PageCache → Type 0 where
+  done : {head : PageCache} → CreatedWell m capacity head m′ → Given m capacity m′ 0 (some head)
+  too-large : RefusedCapacity m capacity m′ → Given m capacity m′ 15 none
+  bad-lengths : RefusedLengths m m′ → Given m capacity m′ 16 none
+
+-- what a creation may answer and leave
+abbrev pub Creates : Memory → ℕ → Created → Memory → Type 0
+Creates m capacity r m′ = Given m capacity m′ (codeOf r) (headOf r)

@@ -9,11 +9,11 @@ ghost use Rattle.creating.specs.Creation.{Creates, freeMarks};
 
 // What came of a creation.
 pub enum Created {
-    // The head of a cache that holds nothing.
+    // 0. The head of a cache that holds nothing.
     Done(PageCache),
-    // There are no slots, or too many, or the lengths of the parts don't agree.
+    // 16. There are no slots, or too many, or the lengths of the parts don't agree.
     BadLengths,
-    // The capacity is more than the slots.
+    // 15. The capacity is more than the slots.
     TooLarge,
 }
 

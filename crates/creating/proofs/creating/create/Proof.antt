@@ -4,6 +4,7 @@ use native.Mathlib.Omega.{arith}
 use borrow.Author.Needs.{needs}
 use Rattle.pool.proofs.Tells.{fails, passes}
 use Rattle.soundness.proofs.Joining.{marks-fit}
+use Rattle.creating.specs.Creation.{done, too-large, bad-lengths}
 use Rattle.creating.proofs.Created.{created-well}
 use Rattle.creating.proofs.creating.create.Statement.{statement}
 use Rattle.creating.proofs.creating.create.Tie as tie
@@ -24,7 +25,7 @@ same-length-4 : tie.Need-same-length-4
 same-length-4 c = search needs
 
 returns : tie.Need-returns
-returns c = record { lengths = fails (c .before .lengths-agree .ensures) (c .if1 .taken); memory = refl }
+returns c = bad-lengths (record { lengths = fails (c .before .lengths-agree .ensures) (c .if1 .taken); memory = refl })
 
 same-length-5 : tie.Need-same-length-5
 same-length-5 c = search needs
@@ -39,7 +40,7 @@ same-length-8 : tie.Need-same-length-8
 same-length-8 c = search needs
 
 returns-2 : tie.Need-returns-2
-returns-2 c = record { lengths = passes (c .before .before .lengths-agree .ensures) (c .before .if1 .left); above = c .if2 .taken; memory = refl }
+returns-2 c = too-large (record { lengths = passes (c .before .before .lengths-agree .ensures) (c .before .if1 .left); above = c .if2 .taken; memory = refl })
 
 fill-words-requires : tie.Need-fill-words-requires
 fill-words-requires c κs = search needs
@@ -92,14 +93,14 @@ returns-3 c =
     let slots = keys .before .before .before .before in
     let capacity = slots .before .before in
     let lengths = capacity .before in
-    created-well
+    done (created-well
     (passes (lengths .before .lengths-agree .ensures) (lengths .if1 .left))
     (capacity .if2 .left)
     (slots .fill-words .ensures)
     (keys .clear-places .ensures)
     (handles .clear-places2 .ensures)
     (marks .mark-all-free .ensures)
-    (c .new .ensures)
+    (c .new .ensures))
 
 pub create-spec : {M : Type 1} → statement M
 create-spec =
