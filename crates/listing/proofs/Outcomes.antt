@@ -14,7 +14,7 @@ use Rattle.listing.specs.declared.testing.Listing.{Listing}
 use Rattle.listing.specs.declared.testing.Listing.the-variants.{Done, NotSound, ShortList}
 use Rattle.listing.specs.declared.listed.ListedPage.{ListedPage}
 use Rattle.listing.specs.Listing.{Form, inNumbers, inRecords, Listable, Filled, Lists}
-use Rattle.listing.specs.Outcome.{codeOf, valueOf, Verdict, Admits, Comes}
+use Rattle.listing.specs.Outcome.{codeOf, valueOf, Verdict, all-listed, not-sound, too-short, Admits, Comes}
 use Rattle.listing.proofs.Sweeping.{row-stands, row-held}
 
 -- ── a cache ──────────────────────────────────────────────────────────────────
@@ -45,48 +45,62 @@ records-fit list = record { empty = refl; none = refl; enough = λ n le. le; sho
 module _ {A : Type 0} {F : Form A} {m : Memory} {head : PageCache} {space : ℕ} {list : List A} {p : Admission} (fits : Fits F space list) (g : Admits m head space p) where
   -- as many pages as the verdict says may be listed
   pub admitted : Listable F (m .slots) (head .hand .0) (p .count) list
-  admitted = by-answer (p .answer) (g .verdict) (g .count)
+  admitted = by-verdict (g .verdict) (g .count)
     where
       none-listable : p .count ≡ 0 → Listable F (m .slots) (head .hand .0) (p .count) list
       none-listable e = record { row = []; stands = tt; count = sym e; room = rw (e, fits .none) (omega arith) }
 
-      by-answer : (a : Listing) → Verdict m head (head .held) space a → p .count ≡ valueOf a → Listable F (m .slots) (head .hand .0) (p .count) list
-      by-answer NotSound v e = none-listable e
-      by-answer ShortList v e = none-listable e
-      by-answer (Done n) v e = rw (e ∙ v .count) (cache-listable F (v .sound .holds) (fits .enough (head .held) (v .room)))
+      by-verdict : {code n : ℕ} → Verdict m head (head .held) space code n → p .count ≡ n → Listable F (m .slots) (head .hand .0) (p .count) list
+      by-verdict (all-listed v) e = rw (e ∙ v .count) (cache-listable F (v .sound .holds) (fits .enough (head .held) (v .room)))
+      by-verdict (not-sound v) e = none-listable e
+      by-verdict (too-short v) e = none-listable e
 
   -- and then the call has come to its answer
   pub comes : {after : List A} → Lists F (m .slots) (head .hand .0) (p .count) list after → Comes F m head list after (p .answer)
-  comes {after} lists = by-answer (p .answer) (g .verdict) (g .count)
+  comes {after} lists = record { verdict = in-places (g .verdict); refused = unaltered (g .verdict) (g .count); done = filled (g .verdict) (g .count) }
     where
-      unaltered : p .count ≡ 0 → after ≡ list
-      unaltered e = lists [] tt (sym e) .list ∙ rw (fits .empty, fits .none)
+      in-places : {code n : ℕ} → Verdict m head (head .held) space code n → Verdict m head (F .places (head .held)) (length list) code n
+      in-places (all-listed v) = all-listed (record { sound = v .sound; room = fits .enough (head .held) (v .room); count = v .count })
+      in-places (not-sound v) = not-sound v
+      in-places (too-short v) = too-short (record { sound = v .sound; short = fits .short (head .held) (v .short) })
 
-      by-answer : (a : Listing) → Verdict m head (head .held) space a → p .count ≡ valueOf a → Comes F m head list after a
-      by-answer NotSound v e = record { verdict = v; refused = λ _. unaltered e; done = λ z. absurd (omega arith) }
-      by-answer ShortList v e = record {
-        verdict = record { sound = v .sound; short = fits .short (head .held) (v .short) };
-        refused = λ _. unaltered e;
-        done = λ z. absurd (omega arith);
-      }
-      by-answer (Done n) v e = record {
-        verdict = record { sound = v .sound; room = fits .enough (head .held) (v .room); count = v .count };
-        refused = λ other. absurd (other refl);
-        done = λ _ c holds. cache-listed F holds (rw (e ∙ v .count) at lists);
-      }
+      none-listed : p .count ≡ 0 → after ≡ list
+      none-listed e = lists [] tt (sym e) .list ∙ rw (fits .empty, fits .none)
+
+      unaltered : {code n : ℕ} → Verdict m head (head .held) space code n → p .count ≡ n → (code ≡ 0 → ⊥) → after ≡ list
+      unaltered (all-listed v) e other = absurd (other refl)
+      unaltered (not-sound v) e other = none-listed e
+      unaltered (too-short v) e other = none-listed e
+
+      filled : {code n : ℕ} → Verdict m head (head .held) space code n → p .count ≡ n → code ≡ 0 → (c : Cache) → Holds m head c → Filled F (c .row) list after
+      filled (all-listed v) e is c holds = cache-listed F holds (rw (e ∙ v .count) at lists)
+      filled (not-sound v) e is c holds = absurd (omega (arith, is))
+      filled (too-short v) e is c holds = absurd (omega (arith, is))
 
 -- ── one outcome ──────────────────────────────────────────────────────────────
-module _ (m : Memory) (head : PageCache) (needed space : ℕ) where
-  pub verdict-once : (a b : Listing) → Verdict m head needed space a → Verdict m head needed space b → a ≡ b
-  verdict-once NotSound NotSound v w = refl
-  verdict-once NotSound ShortList v w = absurd (v (w .sound))
-  verdict-once NotSound (Done n) v w = absurd (v (w .sound))
-  verdict-once ShortList NotSound v w = absurd (w (v .sound))
-  verdict-once ShortList ShortList v w = refl
-  verdict-once ShortList (Done n) v w = absurd (omega arith)
-  verdict-once (Done n) NotSound v w = absurd (w (v .sound))
-  verdict-once (Done n) ShortList v w = absurd (omega arith)
-  verdict-once (Done n) (Done k) v w = ap Done (v .count ∙ sym (w .count))
+-- the number and the value tell the answer
+answer-told : (a b : Listing) → codeOf a ≡ codeOf b → valueOf a ≡ valueOf b → a ≡ b
+answer-told (Done n) (Done k) code value = ap Done value
+answer-told (Done n) NotSound code value = absurd (omega (arith, code))
+answer-told (Done n) ShortList code value = absurd (omega (arith, code))
+answer-told NotSound (Done n) code value = absurd (omega (arith, code))
+answer-told NotSound NotSound code value = refl
+answer-told NotSound ShortList code value = absurd (omega (arith, code))
+answer-told ShortList (Done n) code value = absurd (omega (arith, code))
+answer-told ShortList NotSound code value = absurd (omega (arith, code))
+answer-told ShortList ShortList code value = refl
+
+module _ {m : Memory} {head : PageCache} {needed space : ℕ} where
+  verdict-once : {code code′ n n′ : ℕ} → Verdict m head needed space code n → Verdict m head needed space code′ n′ → (code ≡ code′) × (n ≡ n′)
+  verdict-once (all-listed v) (all-listed w) = (refl, v .count ∙ sym (w .count))
+  verdict-once (all-listed v) (not-sound w) = absurd (w (v .sound))
+  verdict-once (all-listed v) (too-short w) = absurd (omega (arith, v .room, w .short))
+  verdict-once (not-sound v) (all-listed w) = absurd (v (w .sound))
+  verdict-once (not-sound v) (not-sound w) = (refl, refl)
+  verdict-once (not-sound v) (too-short w) = absurd (v (w .sound))
+  verdict-once (too-short v) (all-listed w) = absurd (omega (arith, v .short, w .room))
+  verdict-once (too-short v) (not-sound w) = absurd (w (v .sound))
+  verdict-once (too-short v) (too-short w) = (refl, refl)
 
 -- the same answer, and the same list
 pub record Same {A : Type 0} (a : Listing) (after : List A) (a′ : Listing) (after′ : List A) : Type 0 where
@@ -97,13 +111,14 @@ pub record Same {A : Type 0} (a : Listing) (after : List A) (a′ : Listing) (af
 pub comes-once : {A : Type 0} {F : Form A} {m : Memory} {head : PageCache} {before after after′ : List A} {a a′ : Listing}
     → Comes F m head before after a → Comes F m head before after′ a′ → Same a after a′ after′
 comes-once {F = F} {m = m} {head = head} {before = before} {after = after} {after′ = after′} {a = a} {a′ = a′} g g′ =
-    let e : a ≡ a′ = verdict-once m head (F .places (head .held)) (length before) a a′ (g .verdict) (g′ .verdict) in
-    record { answer = e; list = by-answer a (g .verdict) (g .refused) (g .done) (rw e (g′ .refused)) (rw e (g′ .done)) }
+    let once : (codeOf a ≡ codeOf a′) × (valueOf a ≡ valueOf a′) = verdict-once (g .verdict) (g′ .verdict) in
+    let e : a ≡ a′ = answer-told a a′ (once .0) (once .1) in
+    record { answer = e; list = by-verdict (g .verdict) (g .refused) (g .done) (rw e (g′ .refused)) (rw e (g′ .done)) }
   where
-    by-answer : (a : Listing) → Verdict m head (F .places (head .held)) (length before) a
-        → ((codeOf a ≡ 0 → ⊥) → after ≡ before) → (codeOf a ≡ 0 → (c : Cache) → Holds m head c → Filled F (c .row) before after)
-        → ((codeOf a ≡ 0 → ⊥) → after′ ≡ before) → (codeOf a ≡ 0 → (c : Cache) → Holds m head c → Filled F (c .row) before after′)
+    by-verdict : {code n : ℕ} → Verdict m head (F .places (head .held)) (length before) code n
+        → ((code ≡ 0 → ⊥) → after ≡ before) → (code ≡ 0 → (c : Cache) → Holds m head c → Filled F (c .row) before after)
+        → ((code ≡ 0 → ⊥) → after′ ≡ before) → (code ≡ 0 → (c : Cache) → Holds m head c → Filled F (c .row) before after′)
         → after ≡ after′
-    by-answer NotSound v r d r′ d′ = r (λ z. absurd (omega arith)) ∙ sym (r′ (λ z. absurd (omega arith)))
-    by-answer ShortList v r d r′ d′ = r (λ z. absurd (omega arith)) ∙ sym (r′ (λ z. absurd (omega arith)))
-    by-answer (Done n) v r d r′ d′ = d refl (v .sound .cache) (v .sound .holds) .list ∙ sym (d′ refl (v .sound .cache) (v .sound .holds) .list)
+    by-verdict (all-listed v) r d r′ d′ = d refl (v .sound .cache) (v .sound .holds) .list ∙ sym (d′ refl (v .sound .cache) (v .sound .holds) .list)
+    by-verdict (not-sound v) r d r′ d′ = r (λ z. absurd (omega arith)) ∙ sym (r′ (λ z. absurd (omega arith)))
+    by-verdict (too-short v) r d r′ d′ = r (λ z. absurd (omega arith)) ∙ sym (r′ (λ z. absurd (omega arith)))

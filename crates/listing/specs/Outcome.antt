@@ -18,7 +18,7 @@ codeOf (Done n) = 0
 codeOf NotSound = 1
 codeOf ShortList = 3
 
--- the number of pages listed
+-- and its values: the number of pages listed, else 0
 abbrev pub valueOf : Listing → ℕ
 valueOf (Done n) = n
 valueOf NotSound = 0
@@ -35,20 +35,20 @@ pub record AllListed (m : Memory) (head : PageCache) (needed space n : ℕ) : Ty
   pub room : needed ≤ space
   pub count : n ≡ head .held
 
--- the answer is the one that is due
-abbrev pub Verdict : Memory → PageCache → (needed space : ℕ) → Listing → Type 0
-Verdict m head needed space NotSound = Sound m head → ⊥
-Verdict m head needed space ShortList = TooShort m head needed space
-Verdict m head needed space (Done n) = AllListed m head needed space n
+-- 01's table for a listing: what it means that a number is given, with a value. No other number is given
+pub data Verdict (m : Memory) (head : PageCache) (needed space : ℕ) : (code value : ℕ) → Type 0 where
+  all-listed : {n : ℕ} → AllListed m head needed space n → Verdict m head needed space 0 n
+  not-sound : (Sound m head → ⊥) → Verdict m head needed space 1 0
+  too-short : TooShort m head needed space → Verdict m head needed space 3 0
 
 -- the answer that is due with space for so many pages, and as many pages to list as it says
 pub record Admits (m : Memory) (head : PageCache) (space : ℕ) (a : Admission) : Type 0 where
-  pub verdict : Verdict m head (head .held) space (a .answer)
+  pub verdict : Verdict m head (head .held) space (codeOf (a .answer)) (valueOf (a .answer))
   pub count : a .count ≡ valueOf (a .answer)
 
 -- what came of a call: the list was `before` and is `after`. The memory is lent to be read, and stays as it is
 pub record Comes {A : Type 0} (F : Form A) (m : Memory) (head : PageCache) (before after : List A) (answer : Listing) : Type 0 where
-  pub verdict : Verdict m head (F .places (head .held)) (length before) answer
+  pub verdict : Verdict m head (F .places (head .held)) (length before) (codeOf answer) (valueOf answer)
   -- a refusal alters nothing
   pub refused : (codeOf answer ≡ 0 → ⊥) → after ≡ before
   -- the row of the cache that the memory holds is listed
