@@ -18,7 +18,7 @@ use Rattle.memory.proofs.Walks.{walk, walk-by-key, walk-fits}
 use Rattle.answer.specs.Answer.{Wrote, Comes}
 use Rattle.answer.specs.declared.answer.Answer.the-variants as answers
 use Rattle.answer.proofs.Steps.{plain-follows, listing-follows, comes-as}
-use Rattle.soundness.specs.Checks.{Agreeing}
+use Rattle.soundness.proofs.Joining.{holds-agreeing}
 use Rattle.creating.specs.Creation.{CreatedWell, done, too-large, bad-lengths, Creates}
 use Rattle.creating.specs.declared.creating.Created.{Created}
 use Rattle.creating.specs.declared.creating.Created.the-variants.{Done, BadLengths, TooLarge}
@@ -43,17 +43,10 @@ pub record IsDone (r : Created) : Type 0 where
 pub no-refusal : OneOf (1 ∷ 2 ∷ []) 0 → ⊥
 no-refusal tag = ⊎-elim (λ (q : _≡_ {A = ℕ} 0 1). omega arith) (λ (q : _≡_ {A = ℕ} 0 2). omega arith) tag
 
-agreeing : {m : Memory} {head : PageCache} {c : Cache} → Holds m head c → Agreeing m
-agreeing {m} H = record {
-  lengths = rw (H .lengths .by-key) (H .lengths);
-  some = omega (arith, H .lengths .by-key, H .limits .some);
-  most = omega (arith, H .lengths .by-key, H .limits .most);
-}
-
 module _ {m : Memory} {head : PageCache} {c : Cache} (H : Holds m head c) where
   pub never-refused : (m′ : Memory) (r : Created) → Creates m (head .capacity) r m′ → IsDone r
   never-refused m′ (Done new) made = record { new = new; done = refl }
-  never-refused m′ BadLengths (bad-lengths refused) = absurd (refused .lengths (agreeing H))
+  never-refused m′ BadLengths (bad-lengths refused) = absurd (refused .lengths (holds-agreeing H))
   never-refused m′ TooLarge (too-large refused) = absurd (omega (arith, refused .above, H .headed .capacity, H .limits .capacity, H .lengths .by-key))
 
   module _ {m′ : Memory} {new : PageCache} (made : CreatedWell m (head .capacity) new m′) where

@@ -291,6 +291,14 @@ module _ {m : Memory} {head : PageCache} {c : Cache} (hd : Holds m head c) where
 pub sound-checked : {m : Memory} {head : PageCache} → Sound m head → Checked m head
 sound-checked s = holds-checked (s .holds)
 
+-- the lengths agree of memory that holds a cache
+pub holds-agreeing : {m : Memory} {head : PageCache} {c : Cache} → Holds m head c → Agreeing m
+holds-agreeing {m} H = record {
+  lengths = rw (H .lengths .by-key) (H .lengths);
+  some = omega (arith, H .lengths .by-key, H .limits .some);
+  most = omega (arith, H .lengths .by-key, H .limits .most);
+}
+
 -- ── the test as a whole ──────────────────────────────────────────────────────
 module _ {m : Memory} (a : Agreeing m) where
   pub marks-fit : MarksFit (m .marks) (length (m .by-key))
