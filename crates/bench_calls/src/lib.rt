@@ -4,10 +4,10 @@
 // `pc_bench_run` asks nothing of what it is lent: memory that is not sound is answered with 1 and a head of another length with
 // 16, and nothing is done. Nothing else is said of it. Each record is carried out by `dispatch`, whose contract says what it does
 // and leaves the memory sound for the next one.
+use c_numbers::put_head;
+use c_numbers::read_head;
 use dispatch::dispatch;
 use page::PageCache;
-use page_cache_c::put_head;
-use page_cache_c::read_head;
 use replay_record::Decoded;
 use replay_record::decode;
 use soundness::is_sound;
