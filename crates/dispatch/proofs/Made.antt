@@ -1,8 +1,6 @@
 -- A creation is the model's `create`: on memory that holds a cache it comes to that step, as every other call does to its own, and
 -- on any memory it makes what the step makes of any cache with as many slots. Assumes nothing.
 use mathlib.Core.List.{[]}
-use mathlib.Core.Logic.{_≢_}
-use mathlib.Core.Option.{some}
 use mathlib.Core.Path.{_≡_, refl, sym, ap, _∙_, subst}
 use Prim.Native.Nat.{ℕ, _≤_, _<_}
 use native.Mathlib.Omega.{arith}
@@ -15,7 +13,8 @@ use Rattle.model.specs.Step.{act, step}
 use Rattle.memory.specs.Memory.{Memory}
 use Rattle.memory.specs.Holds.{Holds}
 use Rattle.soundness.proofs.Joining.{holds-agreeing}
-use Rattle.creating.specs.Creation.{CreatedWell, RefusedCapacity, done, too-large, bad-lengths, Creates}
+use Rattle.creating.specs.Creation.{done, too-large, bad-lengths, Creates}
+use Rattle.creating.specs.Creation as creation
 use Rattle.creating.specs.declared.creating.Created.{Created}
 use Rattle.creating.specs.declared.creating.Created.the-variants as created
 use Rattle.answer.specs.Answer.{Comes, codeOf}
@@ -37,6 +36,15 @@ create-above capacity c above = step-too-large (create capacity) (lt-ltb (c .siz
 
 -- ── a creation ───────────────────────────────────────────────────────────────
 module _ {capacity : ℕ} {before after : State} {head : PageCache} {r : Answered} (x : Creation capacity before head after r) where
+  -- the answer has the number that the creation promises
+  pub creation-code : codeOf (r .answer) ≡ creation.codeOf (x .makes .made)
+  creation-code = ap (λ (s : Answered). codeOf (s .answer)) (x .makes .answer) ∙ go (x .makes .made)
+    where
+      go : (made : Created) → codeOf (answeredAs made head .answer) ≡ creation.codeOf made
+      go (created.Done new) = refl
+      go created.TooLarge = refl
+      go created.BadLengths = refl
+
   -- on memory that holds a cache
   pub creation-comes : (c : Cache) → Holds (before .memory) head c
       → Comes (step (create capacity) c) (before .list) (after .memory) (after .list) r
@@ -58,7 +66,7 @@ module _ {capacity : ℕ} {before after : State} {head : PageCache} {r : Answere
           comes-as (create-above capacity c (omega (arith, size, w .above))) (plain-comes TooLarge holds (before .list))
       go created.BadLengths (bad-lengths w) = absurd (w .lengths (holds-agreeing h))
 
-  -- on any memory: what is made is what the model makes of any cache with as many slots, and a history of calls begins with it
+  -- on any memory: what is made is what the model makes of any cache with as many slots
   pub creation-step : codeOf (r .answer) ≡ 0 → (d : Cache) → d .size ≡ length (before .memory .by-key)
       → (step (create capacity) d .code ≡ 0) × Holds (after .memory) (r .head) (step (create capacity) d .cache)
   creation-step told d size = go (x .makes .made) (x .makes .creates) (x .makes .answer)
@@ -78,6 +86,7 @@ module _ {capacity : ℕ} {before after : State} {head : PageCache} {r : Answere
       go created.TooLarge (too-large w) q = absurd (omega (arith, told, ap (λ (s : Answered). codeOf (s .answer)) q))
       go created.BadLengths (bad-lengths w) q = absurd (omega (arith, told, ap (λ (s : Answered). codeOf (s .answer)) q))
 
+  -- and a history of calls begins with it
   pub creation-history : codeOf (r .answer) ≡ 0 → History (length (before .memory .by-key)) capacity [] (after .memory) (r .head)
   creation-history told = go (x .makes .made) (x .makes .creates) (x .makes .answer)
     where
