@@ -23,7 +23,7 @@ impl PageCache {
     pub const MAX_SLOTS: u32 = 4096;
     // The highest use count.
     pub const REF_MAX: u8 = 3;
-    // The share of the capacity at which spilling starts.
+    // The share of the capacity above which a spill may be needed.
     pub const SPILL_THRESHOLD_PERCENT: u64 = 90;
     // The page that is never evicted, spilled or counted: the database header.
     pub const HEADER_PAGE: u32 = 1;
@@ -40,7 +40,7 @@ impl PageCache {
         }
     }
 
-    // How many held pages it takes for a spill.
+    // A spill may be needed if more pages than these are held, and never at or below them.
     pub fn spill_threshold(self) -> u32
         ensures { λ r. ⌜ r ≡ threshold (self .capacity) ⌝ }
     {
