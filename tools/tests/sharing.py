@@ -1,4 +1,4 @@
-"""What the tests of tools/wal-logs and tools/page-images share: the tool as a module, faults to plant, and the tool's words."""
+"""What tests of the tools share: a tool as a module; and for tools/wal-logs and tools/page-images faults to plant, and the tool's words."""
 
 import importlib.machinery
 import os
