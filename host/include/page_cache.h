@@ -42,50 +42,59 @@ extern "C" {
 
 /* ---- answer codes ---- */
 
+/* A call that is refused leaves everything as it was, unless its code says otherwise here. */
+/* made by tools/calls: codes, from docs/answers.tsv */
 enum pc_code {
-    PC_DONE = 0,              /* done */
-    PC_NOT_SOUND = 1,         /* the memory is not sound; nothing is altered */
-    PC_BAD_RECORD = 2,        /* flags above 31 */
-    PC_SHORT_LIST = 3,        /* the list is shorter than the pages held */
-    PC_ABSENT = 4,            /* the key is absent */
-    PC_LOCKED = 5,            /* locked; the value is the key */
-    PC_DIRTY = 6,             /* dirty; the value is the key */
-    PC_PINNED = 7,            /* pinned; the value is the key */
-    PC_FULL = 8,              /* no page may go, or the capacity is 0; evictions stand */
-    PC_KEY_EXISTS = 9,        /* the key is there with the same handle; it was touched */
-    PC_PENDING_EVICTIONS = 10, /* a resize is pending: more pages are held than the new capacity, and none may go */
-    PC_OTHER_PAGE = 11,       /* the key is there with another handle */
-    PC_HANDLE_ELSEWHERE = 12, /* the handle stands under another key */
-    PC_NO_SLOT = 13,          /* every slot is taken */
-    PC_EMPTY = 14,            /* one eviction was asked for, and nothing is held */
-    PC_TOO_LARGE = 15,        /* the capacity is above the slots */
-    PC_BAD_LENGTHS = 16,      /* creation: wrong lengths; any function: the head or the answer has a wrong length */
-    PC_BAD_REPLAY = 17,       /* the bytes are no record */
-    PC_NOT_NEEDED = 18,       /* no spill is needed */
-    PC_NONE_SELECTED = 19     /* a spill is needed, and no page was selected */
+    PC_DONE = 0,               /* the call was done */
+    PC_NOT_SOUND = 1,          /* the memory is not sound; create never gives it */
+    PC_BAD_RECORD = 2,         /* the page record has flags above 31 */
+    PC_SHORT_LIST = 3,         /* the list is shorter than the pages held */
+    PC_ABSENT = 4,             /* the key is absent, or get found its page stale; unchanged, but a stale page is deleted */
+    PC_LOCKED = 5,             /* a page that has to go is locked; the value is its key; earlier removals stand */
+    PC_DIRTY = 6,              /* a page that has to go is dirty; the value is its key; earlier removals stand */
+    PC_PINNED = 7,             /* a page that has to go is pinned; the value is its key; earlier removals stand */
+    PC_FULL = 8,               /* no page may go, or the capacity is 0; evictions stand, and the deletion of a stale page */
+    PC_KEY_EXISTS = 9,         /* the key is there with the same handle; the page was touched */
+    PC_PENDING_EVICTIONS = 10, /* more pages are held than the new capacity, and none of them may go; evictions stand; the capacity
+                                  is the old one */
+    PC_OTHER_PAGE = 11,        /* the key is there with another handle */
+    PC_HANDLE_ELSEWHERE = 12,  /* the handle stands under another key */
+    PC_NO_SLOT = 13,           /* every slot is taken */
+    PC_EMPTY = 14,             /* one page is to be evicted, and none is held */
+    PC_TOO_LARGE = 15,         /* the capacity is above the number of slots */
+    PC_BAD_LENGTHS = 16,       /* create: the number of slots or a lent length is wrong; a function for C or Rust: so is the head's
+                                  or the answer's */
+    PC_BAD_REPLAY = 17,        /* the replay record's length, operation, option or tail is bad */
+    PC_NOT_NEEDED = 18,        /* no spill is needed */
+    PC_NONE_SELECTED = 19      /* a spill is needed, and no page was selected */
 };
+/* end of what is made */
 
 /* ---- records ---- */
 
+/* What a call does, and which fields of its record it uses. */
+/* made by tools/calls: operations, from docs/calls.tsv */
 enum pc_operation {
-    PC_OP_CREATE = 0,         /* number: capacity */
-    PC_OP_INSERT = 1,         /* key, handle, page */
-    PC_OP_FORCE_INSERT = 2,   /* key, handle, page */
-    PC_OP_FORCE_UPSERT = 3,   /* key, handle, page */
-    PC_OP_GET = 4,            /* key */
-    PC_OP_PEEK = 5,           /* key; option: touch */
-    PC_OP_DELETE = 6,         /* key */
-    PC_OP_RESIZE = 7,         /* number: capacity */
-    PC_OP_TRUNCATE = 8,       /* number: keys above it go */
-    PC_OP_REMOVE_FRAMES = 9,  /* number: clean tagged pages with a frame above it go */
-    PC_OP_CLEAR = 10,         /* option: dirty pages too */
-    PC_OP_NOTIFY_DIRTY = 11,  /* key */
-    PC_OP_NOTIFY_SPILLED = 12, /* key */
-    PC_OP_WRITE_RECORD = 13,  /* key, page */
-    PC_OP_CHECK_SPILL = 14,   /* number: most pages to select */
-    PC_OP_EVICT_ONE = 15,
-    PC_OP_SET_SPILL = 16      /* option: on */
+    PC_OP_CREATE = 0,          /* makes a cache with this capacity; nothing is held, and spill is on (number: capacity) */
+    PC_OP_INSERT = 1,          /* inserts a page under an absent or stale key, and makes room for it (key, handle, page) */
+    PC_OP_FORCE_INSERT = 2,    /* inserts as insert does; where that answers full, above the capacity (key, handle, page) */
+    PC_OP_FORCE_UPSERT = 3,    /* inserts as force_insert does, or replaces the page that is there (key, handle, page) */
+    PC_OP_GET = 4,             /* looks a page up and touches it; a stale page is deleted, and is not found (key) */
+    PC_OP_PEEK = 5,            /* looks a page up, and touches it only if asked (key, option: touch) */
+    PC_OP_DELETE = 6,          /* deletes a page that is not locked, dirty or pinned (key) */
+    PC_OP_RESIZE = 7,          /* sets the capacity, and evicts while more pages are held (number: capacity) */
+    PC_OP_TRUNCATE = 8,        /* deletes the pages with a key above the limit, up to the first that refuses (number: limit) */
+    PC_OP_REMOVE_FRAMES = 9,   /* deletes clean tagged pages with a frame above the limit, up to the first that refuses (number:
+                                  limit) */
+    PC_OP_CLEAR = 10,          /* empties the cache, if no page is dirty or dirty pages may go too (option: dirty) */
+    PC_OP_NOTIFY_DIRTY = 11,   /* tells that a page became dirty: one page less counts as evictable (key) */
+    PC_OP_NOTIFY_SPILLED = 12, /* tells that a page was spilled: one page more counts as evictable (key) */
+    PC_OP_WRITE_RECORD = 13,   /* writes the page record of a key (key, page) */
+    PC_OP_CHECK_SPILL = 14,    /* selects at most so many pages to spill, if a spill is needed (number: most) */
+    PC_OP_EVICT_ONE = 15,      /* evicts one page */
+    PC_OP_SET_SPILL = 16       /* turns spilling off or on (option: off or on) */
 };
+/* end of what is made */
 
 enum pc_flag { PC_FLAG_LOADED = 1, PC_FLAG_LOCKED = 2, PC_FLAG_DIRTY = 4, PC_FLAG_SPILLED = 8, PC_FLAG_TAGGED = 16 };
 

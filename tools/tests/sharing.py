@@ -1,4 +1,4 @@
-"""What tests of the tools share: a tool as a module; and for tools/wal-logs and tools/page-images faults to plant, and the tool's words."""
+"""What the tests of the tools share: the tool as a module, faults to plant, and the tool's words."""
 
 import importlib.machinery
 import os
@@ -13,7 +13,8 @@ sys.path.insert(0, TOOLS)
 
 
 def loaded(path):
-    return importlib.machinery.SourceFileLoader(os.path.basename(path).replace('-', '_'), path).load_module()
+    # Python has modules of its own, which may have the tool's name.
+    return importlib.machinery.SourceFileLoader(os.path.basename(path).replace('-', '_') + '_tool', path).load_module()
 
 
 def source_with(fault, faults, path):

@@ -1,7 +1,6 @@
 """Tests of tools/trace: python3 -m unittest discover -s tools/tests"""
 
 import contextlib
-import importlib.machinery
 import io
 import os
 import random
@@ -11,12 +10,11 @@ import tempfile
 import unittest
 from unittest import mock
 
+import sharing
+
 TOP = os.path.dirname(os.path.dirname(os.path.dirname(os.path.abspath(__file__))))
 LENGTH = 32
-
-
-sys.dont_write_bytecode = True
-TRACE = importlib.machinery.SourceFileLoader('trace_tool', os.path.join(TOP, 'tools/trace')).load_module()
+TRACE = sharing.loaded(os.path.join(TOP, 'tools/trace'))
 
 
 class Run:
@@ -61,21 +59,21 @@ class Encoding(unittest.TestCase):
 
     def test_every_call(self):
         lines = ['create 2', 'insert 1 handle=0', 'force_insert 1 handle=0', 'force_upsert 1 handle=0', 'get 1', 'peek 1',
-                 'delete 1', 'resize 3', 'truncate 20', 'remove_frames 7', 'clear', 'dirty 1', 'spilled 1', 'write 1',
-                 'spill 3', 'evict', 'switch off']
+                 'delete 1', 'resize 3', 'truncate 20', 'remove_frames 7', 'clear', 'notify_dirty 1', 'notify_spilled 1',
+                 'write_record 1', 'check_spill 3', 'evict_one', 'set_spill off']
         records = trace('encode', data='\n'.join(lines).encode()).stdout
-        self.assertEqual(list(records[::LENGTH]), list(range(17)))
+        self.assertEqual(list(records[::LENGTH]), list(range(len(TRACE.FORMS))))
         self.assertEqual(trace('decode', data=records).stdout.decode().splitlines(), lines)
 
     def test_options(self):
-        for line, option in ((b'peek 1 touch', 1), (b'peek 1', 0), (b'clear dirty', 1), (b'clear', 0), (b'switch on', 1),
-                             (b'switch off', 0)):
+        for line, option in ((b'peek 1 touch', 1), (b'peek 1', 0), (b'clear dirty', 1), (b'clear', 0), (b'set_spill on', 1),
+                             (b'set_spill off', 0)):
             self.assertEqual(trace('encode', data=line).stdout[15], option, line)
 
     def test_flags_that_have_no_words(self):
-        record = trace('encode', data=b'write 5 flags=200').stdout
+        record = trace('encode', data=b'write_record 5 flags=200').stdout
         self.assertEqual(record[1], 200)
-        self.assertEqual(trace('decode', data=record).stdout, b'write 5 flags=200\n')
+        self.assertEqual(trace('decode', data=record).stdout, b'write_record 5 flags=200\n')
 
     def test_comments_and_blank_lines(self):
         plain = trace('encode', data=b'get 1').stdout
@@ -113,7 +111,7 @@ class RoundTrip(unittest.TestCase):
         records = b''
         for _ in range(2000):
             record = bytearray(LENGTH)
-            record[0] = chance.randrange(18)
+            record[0] = chance.randrange(len(TRACE.FORMS) + 1)
             for _ in range(chance.randrange(4)):
                 record[chance.randrange(1, LENGTH)] = chance.choice((1, 2, 31, 32, 255))
             records += bytes(record)
@@ -123,7 +121,7 @@ class RoundTrip(unittest.TestCase):
         self.assertIn('raw 0102', self.assert_same(content('traces/example.bin') + b'\x01\x02'))
 
     def test_bad_records_say_why(self):
-        for record, why in ((b'\x11' + bytes(31), 'operation 17'), (bytes(15) + b'\x02' + bytes(16), 'option 2'),
+        for record, why in ((b'\xff' + bytes(31), 'operation 255'), (bytes(15) + b'\x02' + bytes(16), 'option 2'),
                             (bytes(31) + b'\x01', '24 to 31'), (b'\x04\x01' + bytes(30), 'get 0, and fields')):
             self.assertIn(why, self.assert_same(record))
 
@@ -139,8 +137,8 @@ class Refusals(unittest.TestCase):
         for line, why in (
                 (b'fetch 1', 'unknown call'), (b'get', 'key is missing'), (b'get x', 'not a number'),
                 (b'get -1', 'not a number'), (b'get 1 2', 'unknown word'), (b'get 1 touch', 'unknown word'), (b'insert 5', 'handle=NUMBER is missing'),
-                (b'insert 5 loaded', 'handle=NUMBER is missing'), (b'write 5 handle=1', 'nothing named'),
-                (b'switch', 'on or off'),
+                (b'insert 5 loaded', 'handle=NUMBER is missing'), (b'write_record 5 handle=1', 'nothing named'),
+                (b'set_spill', 'off or on'),
                 (b'insert 5 handle=1 handle=1', 'given twice'), (b'insert 5 handle=1 loaded loaded', 'given twice'),
                 (b'insert 5 handle=1 loaded flags=1', 'given twice'), (b'insert 5 handle=1 fresh', 'unknown word'),
                 (b'insert 5 handle=1 frame=', 'not a number'), (b'get \xff', 'UTF-8'), (b'raw 0', 'hex'),
@@ -153,9 +151,9 @@ class Refusals(unittest.TestCase):
         self.assertIn('standard input:2: nothing may follow', run.stderr)
 
     def test_numbers_out_of_range(self):
-        for words, most in (('get {}', 2 ** 32), ('insert 1 handle={}', 2 ** 32), ('write 1 pins={}', 2 ** 16),
-                            ('write 1 holders={}', 2 ** 16), ('write 1 cells={}', 2 ** 8), ('write 1 flags={}', 2 ** 8),
-                            ('write 1 frame={}', 2 ** 64), ('create {}', 2 ** 64)):
+        for words, most in (('get {}', 2 ** 32), ('insert 1 handle={}', 2 ** 32), ('write_record 1 pins={}', 2 ** 16),
+                            ('write_record 1 holders={}', 2 ** 16), ('write_record 1 cells={}', 2 ** 8),
+                            ('write_record 1 flags={}', 2 ** 8), ('write_record 1 frame={}', 2 ** 64), ('create {}', 2 ** 64)):
             self.assert_refused(words.format(most).encode(), f'is above {most - 1}')
             self.assertEqual(trace('encode', data=words.format(most - 1).encode()).returncode, 0)
 
@@ -184,17 +182,17 @@ class Showing(unittest.TestCase):
     def test_example(self):
         run = self.shown(['0 0 0 0 - 0', '- 2 1 0 0', '0 0 0 1 10 0', '- 2 1 1 1 10:100:0',
                           '0 0 1 1 10 1 200', '- 2 1 2 2 10:100:0 30:300:3', '6 10 0 2 10 0', '- 2 1 1 1 10:100:1'],
-                         b'create 2\ninsert 10 handle=100\nevict\ndelete 10')
+                         b'create 2\ninsert 10 handle=100\nevict_one\ndelete 10')
         rows = [re.split('   *', line) for line in run.stdout.decode().splitlines()[1:]]
         self.assertEqual(rows, [['create 2', 'done', 'empty'], ['insert 10 handle=100', 'done', '10(0)'],
-                                ['evict', 'done, passed 1, removed 200', '10(0) 30(3)'],
-                                ['delete 10', 'dirty: key 10', '10(1)']])
+                                ['evict_one', 'done, passed 1, removed 200', '10(0) 30(3)'],
+                                ['delete 10', 'dirty, key 10', '10(1)']])
 
     def test_found_replaced_selected(self):
         run = self.shown(['1 0 0 0 - 0', '- no cache', '0 5 0 0 - 0', '- no cache', '0 6 0 0 - 0', '- no cache',
                           '0 2 0 0 - 2 7 8', '- no cache'],
-                         b'evict\nget 1\nforce_upsert 1 handle=9\nspill 2')
-        for words in ('memory not sound', 'found 5', 'replaced 6', 'selected 7 8', 'no cache'):
+                         b'evict_one\nget 1\nforce_upsert 1 handle=9\ncheck_spill 2')
+        for words in ('not_sound', 'found 5', 'replaced 6', 'selected 7 8', 'no cache'):
             self.assertIn(words, run.stdout.decode())
 
     def test_short_record(self):
