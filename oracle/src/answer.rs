@@ -3,19 +3,31 @@
 use crate::storage::page_cache::inspect::RingEntry;
 use std::fmt;
 
-/// Document 01's answer codes, as far as the Rust can give them.
+/// Document 01's answer codes, by the names of docs/answers.tsv. The Rust can give some of
+/// them; the others are for records that it isn't asked about, or for callers that lend memory.
 pub mod code {
     pub const DONE: u8 = 0;
+    pub const NOT_SOUND: u8 = 1;
+    pub const BAD_RECORD: u8 = 2;
+    pub const SHORT_LIST: u8 = 3;
     pub const ABSENT: u8 = 4;
     pub const LOCKED: u8 = 5;
     pub const DIRTY: u8 = 6;
     pub const PINNED: u8 = 7;
     pub const FULL: u8 = 8;
     pub const KEY_EXISTS: u8 = 9;
-    pub const RESIZE_PENDING: u8 = 10;
-    pub const NOTHING_HELD: u8 = 14;
-    pub const SPILL_NOT_NEEDED: u8 = 18;
+    pub const PENDING_EVICTIONS: u8 = 10;
+    pub const OTHER_PAGE: u8 = 11;
+    pub const HANDLE_ELSEWHERE: u8 = 12;
+    pub const NO_SLOT: u8 = 13;
+    pub const EMPTY: u8 = 14;
+    pub const TOO_LARGE: u8 = 15;
+    pub const BAD_LENGTHS: u8 = 16;
+    pub const BAD_REPLAY: u8 = 17;
+    pub const NOT_NEEDED: u8 = 18;
     pub const NONE_SELECTED: u8 = 19;
+    /// How many there are.
+    pub const COUNT: usize = 20;
 }
 
 /// Why the Rust isn't asked. The order is the one in which they are tested.
@@ -52,6 +64,20 @@ impl Mark {
         Mark::OtherRecord,
         Mark::Slots,
     ];
+
+    /// Document 01's code for a record with this mark, if it has one.
+    pub fn code(self) -> Option<u8> {
+        match self {
+            Mark::Record => Some(code::BAD_REPLAY),
+            Mark::NoCache => Some(code::NOT_SOUND),
+            Mark::Capacity => Some(code::TOO_LARGE),
+            Mark::Flags => Some(code::BAD_RECORD),
+            Mark::HandleTaken => Some(code::HANDLE_ELSEWHERE),
+            Mark::OtherPage => Some(code::OTHER_PAGE),
+            Mark::OtherRecord => None,
+            Mark::Slots => Some(code::NO_SLOT),
+        }
+    }
 
     pub fn reason(self) -> &'static str {
         match self {

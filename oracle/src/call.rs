@@ -47,7 +47,7 @@ pub fn call(cache: &mut PageCache, operation: Operation, record: &Record) -> Rep
     let number = record.number as usize;
     let option = record.option == 1;
     match operation {
-        Operation::Lookup => match cache.get(&key) {
+        Operation::Get => match cache.get(&key) {
             Ok(page) => found_or_absent(page),
             Err(error) => refused(error),
         },
@@ -55,10 +55,10 @@ pub fn call(cache: &mut PageCache, operation: Operation, record: &Record) -> Rep
         Operation::Delete => done_or_refused(cache.delete(key)),
         Operation::Resize => match cache.resize(number) {
             CacheResizeResult::Done => Reply::new(code::DONE, 0),
-            CacheResizeResult::PendingEvictions => Reply::new(code::RESIZE_PENDING, 0),
+            CacheResizeResult::PendingEvictions => Reply::new(code::PENDING_EVICTIONS, 0),
         },
         Operation::Truncate => done_or_refused(cache.truncate(number)),
-        Operation::FrameRemoval => {
+        Operation::RemoveFrames => {
             done_or_refused(cache.delete_clean_pages_after_wal_frame(record.number))
         }
         Operation::Clear => done_or_refused(cache.clear(option)),
@@ -70,20 +70,20 @@ pub fn call(cache: &mut PageCache, operation: Operation, record: &Record) -> Rep
             cache.notify_page_spilled(key);
             Reply::new(code::DONE, 0)
         }
-        Operation::Spill => spill(cache, number),
+        Operation::CheckSpill => spill(cache, number),
         Operation::EvictOne => done_or_refused(inspect::evict_one(cache)),
-        Operation::SpillSwitch => {
+        Operation::SetSpill => {
             cache.set_spill_enabled(option);
             Reply::new(code::DONE, 0)
         }
-        _ => unreachable!("creation, insertions and record writes go elsewhere"),
+        _ => unreachable!("create, insertions and write_record go elsewhere"),
     }
 }
 
 /// The pin guards are dropped once their handles are read.
 fn spill(cache: &PageCache, most: usize) -> Reply {
     match cache.check_spill(most) {
-        SpillResult::NotNeeded => Reply::new(code::SPILL_NOT_NEEDED, 0),
+        SpillResult::NotNeeded => Reply::new(code::NOT_NEEDED, 0),
         SpillResult::CacheFull => Reply::new(code::NONE_SELECTED, 0),
         SpillResult::PagesToSpill(guards) => Reply {
             code: code::DONE,
@@ -118,7 +118,7 @@ fn refused(error: CacheError) -> Reply {
         CacheError::KeyExists => Reply::new(code::KEY_EXISTS, 0),
         CacheError::InternalError(message) => {
             assert_eq!(message, "Cannot evict from empty cache");
-            Reply::new(code::NOTHING_HELD, 0)
+            Reply::new(code::EMPTY, 0)
         }
     }
 }

@@ -20,7 +20,7 @@ pub const SLOTS: u64 = 256;
 // Limits of 64 bits go into the Rust as `usize`.
 const _: () = assert!(usize::BITS == 64);
 
-/// How truncation, frame removal and `clear` list what they removed.
+/// How `truncate`, `remove_frames` and `clear` list what they removed.
 #[derive(Clone, Copy, Debug, PartialEq, Eq)]
 pub enum WalkOrder {
     /// As the Rust removed them, in the order of its map.
@@ -155,14 +155,14 @@ impl Driver {
             Some(Operation::Truncate) => {
                 !pages.any(|(key, page)| u64::from(key) > record.number && undeletable(page))
             }
-            Some(Operation::FrameRemoval) => !pages.any(|(_, page)| {
+            Some(Operation::RemoveFrames) => !pages.any(|(_, page)| {
                 let taken =
                     !page.is_dirty() && page.has_wal_tag() && page.wal_tag_pair().0 > record.number;
                 taken && undeletable(page)
             }),
             Some(Operation::Clear) => record.option == 1 || !pages.any(|(_, page)| page.is_dirty()),
             // With a maximum of 0 the Rust walks nothing.
-            Some(Operation::Spill) => {
+            Some(Operation::CheckSpill) => {
                 record.number == 0
                     || !cache.needs_spill()
                     || inspect::count_spillable(cache) as u64 <= record.number
@@ -267,7 +267,7 @@ impl Driver {
         if self.order == WalkOrder::ByKey && operation.removes_in_a_walk() {
             removed.sort_by_key(|page| page.key);
         }
-        let list = if operation == Operation::Spill {
+        let list = if operation == Operation::CheckSpill {
             reply.selected
         } else {
             removed.iter().map(|page| page.handle).collect()

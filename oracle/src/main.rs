@@ -19,7 +19,7 @@ usage: oracle replay [--state] [--by-key] [FILE]
 
 replay     answers 32-byte records from FILE or standard input, a line each
   --state       adds a line with the whole state after each answer
-  --by-key      lists what truncation, frame removal and clear removed by key
+  --by-key      lists what truncate, remove_frames and clear removed by key
 compare    holds what a replay program wrote for TRACE, read from OUTPUT or
            standard input, to what the Rust does
   --answers     the program wrote only answers, no states (no --state)

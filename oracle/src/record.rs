@@ -11,26 +11,27 @@ pub mod flag {
     pub const ALL: u8 = 31;
 }
 
-/// The replay program's calls; each one's number is its place here.
+/// The replay program's calls, by the names of docs/calls.tsv; each one's number is
+/// its place here.
 #[derive(Clone, Copy, Debug, PartialEq, Eq, PartialOrd, Ord)]
 pub enum Operation {
     Create,
     Insert,
     ForceInsert,
     ForceUpsert,
-    Lookup,
+    Get,
     Peek,
     Delete,
     Resize,
     Truncate,
-    FrameRemoval,
+    RemoveFrames,
     Clear,
     NotifyDirty,
     NotifySpilled,
     WriteRecord,
-    Spill,
+    CheckSpill,
     EvictOne,
-    SpillSwitch,
+    SetSpill,
 }
 
 impl Operation {
@@ -39,19 +40,19 @@ impl Operation {
         Operation::Insert,
         Operation::ForceInsert,
         Operation::ForceUpsert,
-        Operation::Lookup,
+        Operation::Get,
         Operation::Peek,
         Operation::Delete,
         Operation::Resize,
         Operation::Truncate,
-        Operation::FrameRemoval,
+        Operation::RemoveFrames,
         Operation::Clear,
         Operation::NotifyDirty,
         Operation::NotifySpilled,
         Operation::WriteRecord,
-        Operation::Spill,
+        Operation::CheckSpill,
         Operation::EvictOne,
-        Operation::SpillSwitch,
+        Operation::SetSpill,
     ];
 
     pub fn from_number(number: u8) -> Option<Self> {
@@ -77,7 +78,7 @@ impl Operation {
 
     /// The Rust walks its map and removes what it meets.
     pub fn removes_in_a_walk(self) -> bool {
-        matches!(self, Self::Truncate | Self::FrameRemoval | Self::Clear)
+        matches!(self, Self::Truncate | Self::RemoveFrames | Self::Clear)
     }
 }
 

@@ -11,16 +11,9 @@ use crate::driver::SLOTS;
 pub fn answer(mark: Mark, state: Option<&State>) -> Answer {
     let ring = state.map_or(&[][..], |state| &state.ring);
     Answer {
-        code: match mark {
-            Mark::Record => 17,
-            Mark::NoCache => 1,
-            Mark::Capacity => 15,
-            Mark::Flags => 2,
-            Mark::HandleTaken => 12,
-            Mark::OtherPage => 11,
-            Mark::OtherRecord => panic!("document 01 has no answer for another record"),
-            Mark::Slots => 13,
-        },
+        code: mark
+            .code()
+            .expect("document 01 has no answer for another record"),
         value: 0,
         passed: passed(mark, state),
         held: ring.len(),

@@ -1,6 +1,7 @@
 //! What was compared, counted.
 
 use super::words;
+use crate::answer::code;
 use crate::record::{Operation, Record};
 use std::fmt;
 
@@ -15,8 +16,6 @@ pub enum Way {
     Mark,
 }
 
-/// Document 01's codes are 0 to 19.
-const CODES: usize = 20;
 /// The operations, and one row more for numbers that are none.
 const ROWS: usize = Operation::ALL.len() + 1;
 
@@ -30,7 +29,7 @@ pub struct Summary {
     /// The trace ended with a short record, answered `bad`.
     pub last_is_short: bool,
     /// Agreed answers by operation and code.
-    pub answers: [[u64; CODES]; ROWS],
+    pub answers: [[u64; code::COUNT]; ROWS],
 }
 
 impl Summary {

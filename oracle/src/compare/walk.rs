@@ -1,6 +1,6 @@
-//! Calls whose outcome in the Rust depends on the order of its map: truncation,
-//! frame removal and `clear` that are refused, and a spill with more spillable
-//! pages than asked for.
+//! Calls whose outcome in the Rust depends on the order of its map: `truncate`,
+//! `remove_frames` and `clear` that are refused, and a `check_spill` with more
+//! spillable pages than asked for.
 //!
 //! This is the one place that works an outcome out: the one of the walk by
 //! ascending key, from the Rust's pool before the call. It also tells whether an
@@ -40,7 +40,7 @@ impl Walk {
     /// The walk that a record asks for, if it asks for one.
     pub fn asked_for(record: &Record, driver: &Driver) -> Option<Self> {
         let operation = record.good_operation()?;
-        if !operation.removes_in_a_walk() && operation != Operation::Spill {
+        if !operation.removes_in_a_walk() && operation != Operation::CheckSpill {
             return None;
         }
         let before = driver.state()?;
@@ -66,7 +66,7 @@ impl Walk {
     /// The outcome by ascending key, if the order matters. Whether a spill is
     /// needed at all is for the Rust's answer to say.
     pub fn by_ascending_key(&self, rusts: &Answer) -> Option<After> {
-        if self.operation == Operation::Spill {
+        if self.operation == Operation::CheckSpill {
             let spillable: Vec<_> = self.pages.iter().filter(|page| page.spillable()).collect();
             let most = usize::try_from(self.number).unwrap_or(usize::MAX);
             let depends = rusts.code == code::DONE && spillable.len() > most;
@@ -89,7 +89,7 @@ impl Walk {
             .iter()
             .filter(|page| after.answer.list.contains(&page.handle))
             .collect();
-        let given = if self.operation == Operation::Spill {
+        let given = if self.operation == Operation::CheckSpill {
             if listed.len() as u64 != self.number || !listed.iter().all(|page| page.spillable()) {
                 return false;
             }
@@ -132,7 +132,7 @@ impl Walk {
         }
     }
 
-    /// Document 01's rule 11: what truncation and frame removal delete.
+    /// Document 01's rule 11: what `truncate` and `remove_frames` delete.
     fn chooses(&self, page: &HeldPage) -> bool {
         if self.operation == Operation::Truncate {
             return u64::from(page.key) > self.number;

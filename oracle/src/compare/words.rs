@@ -2,25 +2,26 @@
 
 use crate::record::{flag, Operation, PageRecord, Record};
 
+/// The name in docs/calls.tsv.
 pub fn of_operation(operation: Operation) -> &'static str {
     match operation {
         Operation::Create => "create",
         Operation::Insert => "insert",
-        Operation::ForceInsert => "forced insert",
-        Operation::ForceUpsert => "forced upsert",
-        Operation::Lookup => "lookup",
+        Operation::ForceInsert => "force_insert",
+        Operation::ForceUpsert => "force_upsert",
+        Operation::Get => "get",
         Operation::Peek => "peek",
         Operation::Delete => "delete",
         Operation::Resize => "resize",
         Operation::Truncate => "truncate",
-        Operation::FrameRemoval => "frame removal",
+        Operation::RemoveFrames => "remove_frames",
         Operation::Clear => "clear",
-        Operation::NotifyDirty => "notify dirty",
-        Operation::NotifySpilled => "notify spilled",
-        Operation::WriteRecord => "record write",
-        Operation::Spill => "spill",
-        Operation::EvictOne => "evict one",
-        Operation::SpillSwitch => "spill switch",
+        Operation::NotifyDirty => "notify_dirty",
+        Operation::NotifySpilled => "notify_spilled",
+        Operation::WriteRecord => "write_record",
+        Operation::CheckSpill => "check_spill",
+        Operation::EvictOne => "evict_one",
+        Operation::SetSpill => "set_spill",
     }
 }
 
@@ -38,19 +39,18 @@ pub fn of_record(record: &Record) -> String {
             format!("{name} key {key}, handle {handle}: {page}")
         }
         Operation::WriteRecord => format!("{name} key {key}: {page}"),
-        Operation::Lookup
-        | Operation::Delete
-        | Operation::NotifyDirty
-        | Operation::NotifySpilled => format!("{name} key {key}"),
+        Operation::Get | Operation::Delete | Operation::NotifyDirty | Operation::NotifySpilled => {
+            format!("{name} key {key}")
+        }
         Operation::Peek if record.option == 1 => format!("{name} key {key} with a touch"),
         Operation::Peek => format!("{name} key {key}"),
         Operation::Truncate => format!("{name} above key {number}"),
-        Operation::FrameRemoval => format!("{name} above frame {number}"),
+        Operation::RemoveFrames => format!("{name} above frame {number}"),
         Operation::Clear if record.option == 1 => format!("{name}, dirty pages too"),
         Operation::Clear | Operation::EvictOne => name.into(),
-        Operation::Spill => format!("{name}, at most {number}"),
-        Operation::SpillSwitch if record.option == 1 => format!("{name} on"),
-        Operation::SpillSwitch => format!("{name} off"),
+        Operation::CheckSpill => format!("{name}, at most {number}"),
+        Operation::SetSpill if record.option == 1 => format!("{name} on"),
+        Operation::SetSpill => format!("{name} off"),
     }
 }
 

@@ -122,7 +122,7 @@ pub fn alphabet() -> Vec<Record> {
             handle: 202,
             ..page(ForceUpsert, 2, loaded | flag::DIRTY)
         },
-        page(Lookup, 2, 0),
+        page(Get, 2, 0),
         Record {
             option: 1,
             ..page(Peek, 3, 0)
@@ -132,7 +132,7 @@ pub fn alphabet() -> Vec<Record> {
         number(Resize, 1),
         number(Resize, 3),
         number(Truncate, 2),
-        number(FrameRemoval, 4),
+        number(RemoveFrames, 4),
         option(Clear, 0),
         option(Clear, 1),
         page(NotifyDirty, 2, 0),
@@ -148,9 +148,9 @@ pub fn alphabet() -> Vec<Record> {
             ..page(WriteRecord, 3, loaded | flag::WAL_TAG)
         },
         page(WriteRecord, 4, loaded | flag::DIRTY | flag::SPILLED),
-        number(Spill, 0),
-        number(Spill, 1),
+        number(CheckSpill, 0),
+        number(CheckSpill, 1),
         Record::new(EvictOne),
-        option(SpillSwitch, 0),
+        option(SetSpill, 0),
     ]
 }

@@ -132,9 +132,18 @@ impl Trace {
         self.bad_record()
     }
 
+    fn number_of_no_operation(&mut self) -> u8 {
+        let least = Operation::ALL.len() as u64;
+        self.rng.between(least, u8::MAX.into()) as u8
+    }
+
+    fn pick_operation(&mut self, operations: &[Operation]) -> u8 {
+        self.rng.pick(operations).number()
+    }
+
     fn bad_record(&mut self) -> Record {
         Record {
-            operation: self.rng.between(17, 255) as u8,
+            operation: self.number_of_no_operation(),
             ..Record::default()
         }
     }
@@ -168,7 +177,7 @@ impl Trace {
             Operation::Insert | Operation::ForceInsert | Operation::ForceUpsert => {
                 return self.insertion(operation, record);
             }
-            Operation::Lookup
+            Operation::Get
             | Operation::Delete
             | Operation::NotifyDirty
             | Operation::NotifySpilled => record.key = self.often_present_key(),
@@ -177,15 +186,15 @@ impl Trace {
                 record.option = self.rng.below(2) as u8;
             }
             Operation::Truncate => record.number = self.key_limit(),
-            Operation::FrameRemoval => record.number = self.frame_limit(),
+            Operation::RemoveFrames => record.number = self.frame_limit(),
             Operation::Clear => record.option = self.rng.below(2) as u8,
             Operation::WriteRecord => {
                 record.key = self.often_present_key();
                 let page = self.rewritten(record.key);
                 return record.with_page(&page);
             }
-            Operation::Spill => record.number = self.most_to_select(),
-            Operation::SpillSwitch => record.option = u8::from(self.rng.percent(75)),
+            Operation::CheckSpill => record.number = self.most_to_select(),
+            Operation::SetSpill => record.option = u8::from(self.rng.percent(75)),
             Operation::EvictOne => {}
         }
         record
@@ -234,23 +243,25 @@ impl Trace {
 
     /// Makes the record one that the Rust isn't asked about, if the state allows.
     fn spoil(&mut self, record: &mut Record) {
+        use Operation::{Create, ForceInsert, ForceUpsert, Insert, Resize, WriteRecord};
         match self.rng.below(8) {
             // A record that is bad in itself.
-            0 => record.operation = self.rng.between(17, 255) as u8,
+            0 => record.operation = self.number_of_no_operation(),
             1 => record.option = self.rng.between(2, 255) as u8,
             2 => record.tail = 1 << self.rng.below(64),
             // A capacity or flags out of range.
             3 => {
-                record.operation = self.rng.pick(&[0, 7]);
+                record.operation = self.pick_operation(&[Create, Resize]);
                 record.number = self.rng.pick(&TOO_LARGE);
             }
             4 => {
-                record.operation = self.rng.pick(&[1, 2, 3, 13]);
+                record.operation =
+                    self.pick_operation(&[Insert, ForceInsert, ForceUpsert, WriteRecord]);
                 record.flags = self.rng.between(32, 255) as u8;
             }
             // A handle that stands under another key.
             5 => {
-                record.operation = self.rng.pick(&[1, 2, 3]);
+                record.operation = self.pick_operation(&[Insert, ForceInsert, ForceUpsert]);
                 record.flags &= flag::ALL;
                 record.key = self.any_key();
                 let neighbour = self.often_present_key();
@@ -260,14 +271,14 @@ impl Trace {
             }
             // Another page under a key that is present.
             6 => {
-                record.operation = self.rng.pick(&[1, 2]);
+                record.operation = self.pick_operation(&[Insert, ForceInsert]);
                 record.flags &= flag::ALL;
                 record.key = self.often_present_key();
                 record.handle = self.fresh_handle();
             }
             // One page more than there are slots, if the pool is full.
             _ => {
-                record.operation = self.rng.pick(&[2, 3]);
+                record.operation = self.pick_operation(&[ForceInsert, ForceUpsert]);
                 record.flags &= flag::ALL;
                 record.key = self.often_absent_key();
                 record.handle = self.fresh_handle();

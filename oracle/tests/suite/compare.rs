@@ -95,10 +95,10 @@ fn example() -> Case {
 fn right_lines_are_taken() {
     let summary = example().is_taken();
     assert_eq!((summary.records(), summary.exactly), (6, 6));
-    assert_eq!(summary.answers[usize::from(Lookup.number())][4], 1);
-    assert_eq!(summary.answers[usize::from(Lookup.number())][0], 1);
+    assert_eq!(summary.answers[usize::from(Get.number())][4], 1);
+    assert_eq!(summary.answers[usize::from(Get.number())][0], 1);
     let text = summary.to_string();
-    assert!(text.contains("| lookup | 0: 1, 4: 1 |"), "{text}");
+    assert!(text.contains("| get | 0: 1, 4: 1 |"), "{text}");
 }
 
 #[test]
@@ -400,7 +400,7 @@ fn a_refused_frame_removal_is_the_one_by_ascending_key() {
             tagged(1, flag::LOADED),
             pinned,
             tagged(8, flag::LOADED),
-            numbered(FrameRemoval, 8),
+            numbered(RemoveFrames, 8),
         ],
         lines: vec![
             "0 0 0 0 - 0",
@@ -465,7 +465,7 @@ fn a_selection_has_as_many_pages_and_the_first_by_key() {
     replay(&mut input.as_slice(), &mut output, WalkOrder::ByKey, true).unwrap();
     let output = String::from_utf8(output).unwrap();
     let state = output.lines().last().unwrap();
-    records.push(numbered(Spill, 3));
+    records.push(numbered(CheckSpill, 3));
     let with = |answer: &str| compared(&records, &format!("{output}{answer}\n{state}\n"));
     assert_eq!(with("0 3 0 10 2 3 20 30 40").unwrap().up_to_key_order, 1);
     assert_eq!(what(with("0 2 0 10 2 2 20 30")), "value");

@@ -113,33 +113,33 @@ fn two_dirty_pages(capacity: u64, call: Record) -> [Record; 4] {
 #[test]
 fn added() {
     gives(
-        "create 1; insert 5; write 5 dirty; insert 6",
+        "create 1; insert 5; write_record 5 dirty; insert 6",
         &[create(1), insert(5), write(5, DIRTY), insert(6)],
         "8 0 4 1 5 0",
         "- 1 1 1 1 5:50:0",
     );
     parts(
-        "create 2; insert 5; insert 6 with handle 50",
+        "create 2; insert 5; insert 6 handle=50",
         &[create(2), insert(5), with_handle(insert(6), 50)],
         "12 0 0 1 5 0",
         "? handle taken",
         "- 2 1 1 1 5:50:0",
     );
     gives(
-        "create 1; evict one",
+        "create 1; evict_one",
         &[create(1), evict_one()],
         "14 0 0 0 - 0",
         "- 1 1 0 0",
     );
     parts(
-        "| Code 1 | lookup 5",
+        "| Code 1 | get 5",
         &[lookup(5)],
         "1 0 0 0 - 0",
         "? no cache",
         "- no cache",
     );
     parts(
-        "create 2; insert 5 with flags 32",
+        "create 2; insert 5 flags=32",
         &[create(2), flagged(Insert, 5, 32)],
         "2 0 0 0 - 0",
         "? flags",
@@ -170,13 +170,13 @@ fn added() {
         "- 1 1 0 0",
     );
     gives(
-        "create 1; insert 5; forced upsert 5 with handle 51",
+        "create 1; insert 5; force_upsert 5 handle=51",
         &[create(1), insert(5), with_handle(paged(ForceUpsert, 5), 51)],
         "0 50 0 1 5 0",
         "- 1 1 1 1 5:51:1",
     );
     gives(
-        "create 1; insert 5; lookup 5; insert 6",
+        "create 1; insert 5; get 5; insert 6",
         &[create(1), insert(5), lookup(5), insert(6)],
         "0 0 1 1 6 1 50",
         "- 1 1 1 1 6:60:0",
@@ -192,7 +192,7 @@ fn no_slot_is_free() {
         pool.call(*record);
     }
     parts(
-        "create 0; forced insert 2, 3 and so on to 258",
+        "create 0; force_insert 2, 3 and so on to 258",
         &records,
         "13 0 0 256 2 0",
         "? slots",
@@ -203,7 +203,7 @@ fn no_slot_is_free() {
 #[test]
 fn changed() {
     parts(
-        "create 2; insert 3; insert 4 locked; truncate above 2",
+        "create 2; insert 3; insert 4 locked; truncate 2",
         &[
             create(2),
             insert(3),
@@ -215,12 +215,12 @@ fn changed() {
         "- 2 1 1 1 4:40:0",
     );
     parts(
-        "create 2; insert 3 tagged, frame 5; insert 4 locked, tagged, frame 5; remove above frame 4",
+        "create 2; insert 3 tagged frame=5; insert 4 locked tagged frame=5; remove_frames 4",
         &[
             create(2),
             tagged(3, flag::LOADED),
             tagged(4, LOCKED),
-            numbered(FrameRemoval, 4),
+            numbered(RemoveFrames, 4),
         ],
         "5 4 0 1 4 1 30",
         "5 4 0 2 3 0",
@@ -239,8 +239,8 @@ fn changed() {
         "- 2 1 0 2 3:30:0 4:40:0",
     );
     parts(
-        "create 1; forced insert 3 dirty; forced insert 4 dirty; spill, at most 1",
-        &two_dirty_pages(1, numbered(Spill, 1)),
+        "create 1; force_insert 3 dirty; force_insert 4 dirty; check_spill 1",
+        &two_dirty_pages(1, numbered(CheckSpill, 1)),
         "0 1 0 2 3 1 30",
         "0 1 0 2 3 1 40",
         "- 1 1 0 2 3:30:0 4:40:0",
@@ -250,13 +250,13 @@ fn changed() {
         ..write(5, flag::LOADED)
     };
     gives(
-        "create 1; insert 5; write 5 with 1 holder; insert 6",
+        "create 1; insert 5; write_record 5 holders=1; insert 6",
         &[create(1), insert(5), held, insert(6)],
         "8 0 4 1 5 0",
         "- 1 1 1 1 5:50:0",
     );
     parts(
-        "create 2; insert 5; insert 5 with handle 51",
+        "create 2; insert 5; insert 5 handle=51",
         &[create(2), insert(5), with_handle(insert(5), 51)],
         "11 0 0 1 5 0",
         "? other page",
@@ -275,11 +275,14 @@ fn rusts_page(key: u32, flags: u8) -> (PageCacheKey, PageRef) {
 
 #[test]
 fn a_selection_pins_nothing() {
-    let spill = numbered(Spill, 1);
+    let spill = numbered(CheckSpill, 1);
     let once = two_dirty_pages(1, spill).to_vec();
     let twice = [&once[..], &[spill]].concat();
     let line = "0 1 0 2 3 1 30";
-    stand_behind(&[line], "the same; spill, at most 1, again");
+    stand_behind(
+        &[line],
+        "create 1; force_insert 3 dirty; force_insert 4 dirty; check_spill 1; check_spill 1",
+    );
     let selected = format!("{line}\n- 1 1 0 2 3:30:0 4:40:0\n");
     taken(&twice, &(rusts_output(&once[..3]) + &selected + &selected));
     assert_eq!(rusts_line(&twice), rusts_line(&once));
@@ -327,7 +330,7 @@ fn the_ring_and_the_sweeps() {
     let mut records = vec![create(3)];
     records.extend([insert(5), insert(6), insert(7)]);
     gives(
-        "create 3; insert 5, 6, 7",
+        "create 3; insert 5; insert 6; insert 7",
         &records,
         "0 0 0 3 5 0",
         "- 3 1 3 3 5:50:0 7:70:0 6:60:0",
@@ -347,31 +350,31 @@ fn the_ring_and_the_sweeps() {
         "- 3 1 3 3 8:80:0 9:90:0 6:60:0",
     );
     gives(
-        "create 2; insert 5; insert 6; lookup 5",
+        "create 2; insert 5; insert 6; get 5",
         &[create(2), insert(5), insert(6), lookup(5)],
         "0 50 0 2 5 0",
         "- 2 1 2 2 5:50:1 6:60:0",
     );
     gives(
-        "create 1; insert 5; lookup 5; lookup 5; evict one",
+        "create 1; insert 5; get 5; get 5; evict_one",
         &[create(1), insert(5), lookup(5), lookup(5), evict_one()],
         "0 0 2 0 - 1 50",
         "- 1 1 0 0",
     );
     gives(
-        "create 1; insert 5; peek 5; evict one",
+        "create 1; insert 5; peek 5; evict_one",
         &[create(1), insert(5), keyed(Peek, 5), evict_one()],
         "0 0 0 0 - 1 50",
         "- 1 1 0 0",
     );
     gives(
-        "create 1; insert 1; lookup 1; insert 5",
+        "create 1; insert 1; get 1; insert 5",
         &[create(1), insert(1), lookup(1), insert(5)],
         "8 0 4 1 1 0",
         "- 1 1 0 1 1:10:1",
     );
     gives(
-        "create 1; insert 5 dirty, spilled; insert 6",
+        "create 1; insert 5 dirty spilled; insert 6",
         &[create(1), flagged(Insert, 5, SPILLED), insert(6)],
         "0 0 0 1 6 1 50",
         "- 1 1 1 1 6:60:0",
@@ -383,13 +386,13 @@ fn the_ring_and_the_sweeps() {
         "- 1 1 0 1 1:10:0",
     );
     gives(
-        "create 0; forced insert 5",
+        "create 0; force_insert 5",
         &[create(0), paged(ForceInsert, 5)],
         "0 0 0 1 5 0",
         "- 0 1 1 1 5:50:0",
     );
     gives(
-        "create 0; forced insert 5; insert 6",
+        "create 0; force_insert 5; insert 6",
         &[create(0), paged(ForceInsert, 5), insert(6)],
         "8 0 0 1 5 0",
         "- 0 1 1 1 5:50:0",
@@ -399,20 +402,20 @@ fn the_ring_and_the_sweeps() {
 #[test]
 fn insertion_and_lookup() {
     gives(
-        "create 1; forced insert 3 dirty; forced insert 4 dirty; insert 5",
+        "create 1; force_insert 3 dirty; force_insert 4 dirty; insert 5",
         &two_dirty_pages(1, insert(5)),
         "8 0 8 2 3 0",
         "- 1 1 0 2 3:30:0 4:40:0",
     );
     let forced = |key| paged(ForceInsert, key);
     gives(
-        "create 0; forced insert 5; forced insert 6",
+        "create 0; force_insert 5; force_insert 6",
         &[create(0), forced(5), forced(6)],
         "0 0 0 2 5 0",
         "- 0 1 2 2 5:50:0 6:60:0",
     );
     gives(
-        "create 1; insert 5 dirty, not loaded; forced upsert 5 with handle 51",
+        "create 1; insert 5 flags=4; force_upsert 5 handle=51",
         &[
             create(1),
             flagged(Insert, 5, flag::DIRTY),
@@ -422,13 +425,13 @@ fn insertion_and_lookup() {
         "- 1 1 0 1 5:50:0",
     );
     gives(
-        "create 1; insert 1 not loaded; lookup 1",
+        "create 1; insert 1 flags=0; get 1",
         &[create(1), flagged(Insert, 1, 0), lookup(1)],
         "4 0 0 0 - 1 10",
         "- 1 1 0 0",
     );
     gives(
-        "create 1; insert 5 dirty, spilled, not loaded; lookup 5",
+        "create 1; insert 5 flags=12; get 5",
         &[
             create(1),
             flagged(Insert, 5, flag::DIRTY | flag::SPILLED),
@@ -438,7 +441,7 @@ fn insertion_and_lookup() {
         "- 1 1 1 1 5:50:0",
     );
     gives(
-        "create 1; insert 5 not loaded; peek 5",
+        "create 1; insert 5 flags=0; peek 5",
         &[create(1), flagged(Insert, 5, 0), keyed(Peek, 5)],
         "0 50 0 1 5 0",
         "- 1 1 1 1 5:50:0",
@@ -449,19 +452,19 @@ fn insertion_and_lookup() {
 fn resize_truncation_frame_removal_clear() {
     let forced = |key| paged(ForceInsert, key);
     gives(
-        "create 0; forced insert 5; forced insert 6; resize 1",
+        "create 0; force_insert 5; force_insert 6; resize 1",
         &[create(0), forced(5), forced(6), numbered(Resize, 1)],
         "0 0 0 1 6 1 50",
         "- 1 1 1 1 6:60:0",
     );
     gives(
-        "create 0; forced insert 3 dirty; forced insert 4 dirty; resize 1",
+        "create 0; force_insert 3 dirty; force_insert 4 dirty; resize 1",
         &two_dirty_pages(0, numbered(Resize, 1)),
         "10 0 8 2 3 0",
         "- 0 1 0 2 3:30:0 4:40:0",
     );
     gives(
-        "create 2; insert 4 locked; insert 5; truncate above 2",
+        "create 2; insert 4 locked; insert 5; truncate 2",
         &[
             create(2),
             flagged(Insert, 4, LOCKED),
@@ -472,18 +475,18 @@ fn resize_truncation_frame_removal_clear() {
         "- 2 1 2 2 4:40:0 5:50:0",
     );
     gives(
-        "create 2; insert 4 locked, tagged, frame 5; insert 5 tagged, frame 5; remove above frame 4",
+        "create 2; insert 4 locked tagged frame=5; insert 5 tagged frame=5; remove_frames 4",
         &[
             create(2),
             tagged(4, LOCKED),
             tagged(5, flag::LOADED),
-            numbered(FrameRemoval, 4),
+            numbered(RemoveFrames, 4),
         ],
         "5 4 0 2 4 0",
         "- 2 1 2 2 4:40:0 5:50:0",
     );
     gives(
-        "create 1; insert 5 dirty; clear, dirty too",
+        "create 1; insert 5 dirty; clear dirty",
         &[create(1), dirty(Insert, 5), optional(Clear, 1)],
         "0 0 0 0 - 1 50",
         "- 1 1 0 0",
@@ -505,21 +508,21 @@ fn the_estimate() {
         "- 1 1 0 1 5:50:0",
     );
     gives(
-        "create 1; insert 5 dirty; write 5 clean; insert 6",
+        "create 1; insert 5 dirty; write_record 5 loaded; insert 6",
         &[create(1), dirty(Insert, 5), clean, insert(6)],
         "0 0 0 1 6 1 50",
         "- 1 1 1 1 6:60:0",
     );
     let mut one_cleaned = two_dirty_pages(1, write(3, flag::LOADED)).to_vec();
-    one_cleaned.push(numbered(Spill, 1));
+    one_cleaned.push(numbered(CheckSpill, 1));
     gives(
-        "create 1; forced insert 3 dirty; forced insert 4 dirty; write 3 clean; spill, at most 1",
+        "create 1; force_insert 3 dirty; force_insert 4 dirty; write_record 3 loaded; check_spill 1",
         &one_cleaned,
         "18 0 0 2 3 0",
         "- 1 1 0 2 3:30:0 4:40:0",
     );
     gives(
-        "create 2; insert 5; insert 6 dirty; notify dirty 6",
+        "create 2; insert 5; insert 6 dirty; notify_dirty 6",
         &[
             create(2),
             insert(5),
@@ -530,13 +533,13 @@ fn the_estimate() {
         "- 2 1 0 2 5:50:0 6:60:0",
     );
     gives(
-        "create 1; insert 5; notify spilled 5",
+        "create 1; insert 5; notify_spilled 5",
         &[create(1), insert(5), keyed(NotifySpilled, 5)],
         "0 0 0 1 5 0",
         "- 1 1 2 1 5:50:0",
     );
     gives(
-        "create 1; insert 5; notify dirty 6",
+        "create 1; insert 5; notify_dirty 6",
         &[create(1), insert(5), keyed(NotifyDirty, 6)],
         "0 0 0 1 5 0",
         "- 1 1 1 1 5:50:0",
@@ -545,35 +548,35 @@ fn the_estimate() {
 
 #[test]
 fn spilling() {
-    let spill = |most| numbered(Spill, most);
-    let mut switched_off = two_dirty_pages(1, optional(SpillSwitch, 0)).to_vec();
+    let spill = |most| numbered(CheckSpill, most);
+    let mut switched_off = two_dirty_pages(1, optional(SetSpill, 0)).to_vec();
     switched_off.push(spill(1));
     gives(
-        "create 1; forced insert 3 dirty; forced insert 4 dirty; switch off; spill, at most 1",
+        "create 1; force_insert 3 dirty; force_insert 4 dirty; set_spill off; check_spill 1",
         &switched_off,
         "18 0 0 2 3 0",
         "- 1 0 0 2 3:30:0 4:40:0",
     );
     gives(
-        "create 2; insert 5; insert 6; spill, at most 1",
+        "create 2; insert 5; insert 6; check_spill 1",
         &[create(2), insert(5), insert(6), spill(1)],
         "18 0 0 2 5 0",
         "- 2 1 2 2 5:50:0 6:60:0",
     );
     gives(
-        "create 1; insert 5 dirty; spill, at most 1",
+        "create 1; insert 5 dirty; check_spill 1",
         &[create(1), dirty(Insert, 5), spill(1)],
         "18 0 0 1 5 0",
         "- 1 1 0 1 5:50:0",
     );
     gives(
-        "create 0; forced insert 3 dirty; spill, at most 1",
+        "create 0; force_insert 3 dirty; check_spill 1",
         &[create(0), dirty(ForceInsert, 3), spill(1)],
         "18 0 0 1 3 0",
         "- 0 1 0 1 3:30:0",
     );
     gives(
-        "create 1; forced insert 3 dirty; forced insert 4 dirty; spill, at most 0",
+        "create 1; force_insert 3 dirty; force_insert 4 dirty; check_spill 0",
         &two_dirty_pages(1, spill(0)),
         "19 0 0 2 3 0",
         "- 1 1 0 2 3:30:0 4:40:0",
@@ -581,7 +584,7 @@ fn spilling() {
     let locked = |key| flagged(ForceInsert, key, LOCKED | flag::DIRTY);
     let two_locked = [locked(3), locked(4), paged(ForceInsert, 5)];
     gives(
-        "create 1; forced insert 3 locked, dirty; forced insert 4 locked, dirty; forced insert 5; spill, at most 1",
+        "create 1; force_insert 3 locked dirty; force_insert 4 locked dirty; force_insert 5; check_spill 1",
         &[&[create(1)], &two_locked[..], &[spill(1)]].concat(),
         "19 0 0 3 3 0",
         "- 1 1 1 3 3:30:0 5:50:0 4:40:0",
@@ -596,7 +599,7 @@ fn spilling() {
         ..dirty(ForceInsert, 3)
     };
     gives(
-        "create 1; forced insert 3 dirty, 1 overflow cell; forced insert 4 dirty; spill, at most 2",
+        "create 1; force_insert 3 dirty cells=1; force_insert 4 dirty; check_spill 2",
         &[create(1), overflowing, dirty(ForceInsert, 4), spill(2)],
         "0 1 0 2 3 1 40",
         "- 1 1 0 2 3:30:0 4:40:0",
@@ -612,7 +615,7 @@ fn for_tests_and_verification() {
         "- 1 1 0 0",
     );
     gives(
-        "create 1; insert 1; evict one",
+        "create 1; insert 1; evict_one",
         &[create(1), insert(1), evict_one()],
         "8 0 4 1 1 0",
         "- 1 1 0 1 1:10:0",
@@ -621,10 +624,7 @@ fn for_tests_and_verification() {
 
 #[test]
 fn another_record_is_not_compared() {
-    stand_behind(
-        &[],
-        "create 1; insert 5; forced upsert 5 dirty with handle 50",
-    );
+    stand_behind(&[], "create 1; insert 5; force_upsert 5 handle=50 dirty");
     let records = [create(1), insert(5), dirty(ForceUpsert, 5)];
     assert_eq!(rusts_line(&records), "? other record");
 }

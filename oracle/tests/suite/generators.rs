@@ -32,25 +32,25 @@ fn sequences(length: u64, capacity: u64, exact: bool) -> Vec<Vec<Record>> {
 }
 
 /// Every answer that the Rust can give to an operation.
-fn possible_codes(operation: Operation) -> &'static [u8] {
+pub fn possible_codes(operation: Operation) -> &'static [u8] {
     match operation {
-        Create | NotifyDirty | NotifySpilled | SpillSwitch => &[0],
+        Create | NotifyDirty | NotifySpilled | SetSpill => &[0],
         Insert => &[0, 6, 7, 8, 9],
         ForceInsert => &[0, 6, 7, 9],
         ForceUpsert => &[0, 6, 7],
-        Lookup => &[0, 4, 6, 7],
+        Get => &[0, 4, 6, 7],
         Peek | WriteRecord => &[0, 4],
         Delete | Truncate => &[0, 5, 6, 7],
         Resize => &[0, 10],
-        FrameRemoval => &[0, 5, 7],
+        RemoveFrames => &[0, 5, 7],
         Clear => &[0, 6],
-        Spill => &[0, 18, 19],
+        CheckSpill => &[0, 18, 19],
         EvictOne => &[0, 8, 14],
     }
 }
 
 /// Every mark that a generated call of an operation can get.
-fn possible_marks(operation: Operation) -> &'static [Mark] {
+pub fn possible_marks(operation: Operation) -> &'static [Mark] {
     use Mark::{Capacity, Flags, HandleTaken, NoCache, OtherPage, Slots};
     match operation {
         Create => &[Mark::Record, Capacity],
@@ -178,14 +178,14 @@ fn limits_are_of_every_size() {
     let last_key = u64::from(u32::MAX);
     has(&numbers(Truncate), [0, 1, last_key - 1, last_key]);
     has(&numbers(Truncate), [last_key + 1, u64::MAX]);
-    has(&numbers(FrameRemoval), [0, 1, u64::MAX - 1, u64::MAX]);
-    has(&numbers(Spill), [0, 1, 2, 256, 257, u64::MAX]);
+    has(&numbers(RemoveFrames), [0, 1, u64::MAX - 1, u64::MAX]);
+    has(&numbers(CheckSpill), [0, 1, 2, 256, 257, u64::MAX]);
 }
 
 #[test]
 fn unused_fields_hold_something_now_and_then() {
     let trace = random_trace(1, 20_000, 0, false);
-    for operation in [Lookup, Peek, Delete, Resize, Truncate, Clear, EvictOne] {
+    for operation in [Get, Peek, Delete, Resize, Truncate, Clear, EvictOne] {
         let mut records = trace.iter().filter(|r| r.operation == operation.number());
         assert!(
             records.any(|record| record.flags > flag::ALL),
@@ -222,7 +222,7 @@ fn exact_answers_do_not_depend_on_the_walk() {
         if operation.removes_in_a_walk() {
             assert_eq!(answer.code, 0, "{record:?}");
         }
-        if operation == Spill && answer.code == 0 {
+        if operation == CheckSpill && answer.code == 0 {
             assert_eq!(answer.list.len(), fit, "{record:?}");
         }
     }

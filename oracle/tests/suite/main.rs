@@ -13,4 +13,5 @@ mod records;
 mod sample;
 mod source;
 mod sweeps;
+mod table;
 mod walk;

@@ -16,7 +16,7 @@ fn two_pages() -> Pool {
 #[test]
 fn a_bad_record_comes_first() {
     let mut pool = two_pages();
-    for operation in 17..=255 {
+    for operation in Operation::ALL.len() as u8..=u8::MAX {
         let record = Record {
             operation,
             ..Record::default()
@@ -83,7 +83,7 @@ fn flags_above_31_where_a_page_record_is_taken() {
             pool.gives_and_keeps_state(handle_taken_too, "? flags");
         }
         pool.gives_and_keeps_state(flagged(WriteRecord, 7, flags), "? flags");
-        pool.gives(flagged(Lookup, 7, flags), "4 0 0 2 5 0");
+        pool.gives(flagged(Get, 7, flags), "4 0 0 2 5 0");
     }
     pool.gives(flagged(WriteRecord, 7, flag::ALL), "4 0 0 2 5 0");
     pool.gives(flagged(WriteRecord, 6, flag::ALL), "0 0 0 2 5 0");

@@ -52,7 +52,7 @@ pub fn insert(key: u32) -> Record {
 }
 
 pub fn lookup(key: u32) -> Record {
-    keyed(Operation::Lookup, key)
+    keyed(Operation::Get, key)
 }
 
 pub fn evict_one() -> Record {

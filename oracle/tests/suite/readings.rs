@@ -54,10 +54,10 @@ fn a_switch_that_is_off_means_not_needed() {
     assert!(matches!(cache.check_spill(9), SpillResult::NotNeeded));
 
     let mut pool = spill_needed();
-    pool.done(optional(SpillSwitch, 0));
-    pool.gives(numbered(Spill, 9), "18 0 0 2 5 0");
-    pool.done(optional(SpillSwitch, 1));
-    pool.gives(numbered(Spill, 9), "0 2 0 2 5 2 50 60");
+    pool.done(optional(SetSpill, 0));
+    pool.gives(numbered(CheckSpill, 9), "18 0 0 2 5 0");
+    pool.done(optional(SetSpill, 1));
+    pool.gives(numbered(CheckSpill, 9), "0 2 0 2 5 2 50 60");
 }
 
 #[test]
@@ -76,10 +76,10 @@ fn pages_are_pinned_while_their_guards_live() {
 
 #[test]
 fn nothing_to_select_answers_19_only_if_needed() {
-    spill_needed().gives_and_keeps_state(numbered(Spill, 0), "19 0 0 2 5 0");
+    spill_needed().gives_and_keeps_state(numbered(CheckSpill, 0), "19 0 0 2 5 0");
     let mut pool = Pool::created(1);
     pool.done(flagged(Insert, 5, DIRTY));
-    pool.gives_and_keeps_state(numbered(Spill, 0), "18 0 0 1 5 0");
+    pool.gives_and_keeps_state(numbered(CheckSpill, 0), "18 0 0 1 5 0");
 }
 
 #[test]
@@ -88,7 +88,7 @@ fn held_equal_to_the_threshold_needs_no_spill() {
     for key in 2..20 {
         pool.done(flagged(Insert, key, DIRTY));
     }
-    pool.gives(numbered(Spill, 99), "18 0 0 18 2 0");
+    pool.gives(numbered(CheckSpill, 99), "18 0 0 18 2 0");
 }
 
 #[test]
@@ -102,9 +102,9 @@ fn a_spill_can_be_needed_below_capacity_and_find_nothing() {
         pool.done(with_overflow_cells);
     }
     // 95 held: 5 places free and 5 too many.
-    pool.gives(numbered(Spill, 99), "18 0 0 95 2 0");
+    pool.gives(numbered(CheckSpill, 99), "18 0 0 95 2 0");
     pool.done(flagged(Insert, 97, DIRTY | flag::LOCKED));
-    pool.gives(numbered(Spill, 99), "19 0 0 96 2 0");
+    pool.gives(numbered(CheckSpill, 99), "19 0 0 96 2 0");
 }
 
 #[test]
@@ -127,22 +127,22 @@ fn selection_takes_only_spillable_pages_and_ignores_loaded() {
     });
     pool.done(flagged(ForceInsert, 5, DIRTY | flag::LOCKED));
     pool.done(dirty(6));
-    pool.gives(numbered(Spill, 99), "0 2 0 7 9 2 60 90");
+    pool.gives(numbered(CheckSpill, 99), "0 2 0 7 9 2 60 90");
     pool.done(flagged(WriteRecord, 6, SPILLED));
-    pool.gives(numbered(Spill, 99), "0 1 0 7 9 1 90");
+    pool.gives(numbered(CheckSpill, 99), "0 1 0 7 9 1 90");
 }
 
 #[test]
 fn the_estimate_decides_before_the_count() {
     let mut pool = spill_needed();
     pool.done(keyed(NotifySpilled, 5));
-    pool.gives(numbered(Spill, 9), "18 0 0 2 5 0");
+    pool.gives(numbered(CheckSpill, 9), "18 0 0 2 5 0");
     pool.done(keyed(NotifyDirty, 5));
-    pool.gives(numbered(Spill, 9), "0 2 0 2 5 2 50 60");
+    pool.gives(numbered(CheckSpill, 9), "0 2 0 2 5 2 50 60");
     // An estimate that is too low changes nothing if enough pages may go.
     pool.done(flagged(WriteRecord, 5, SPILLED));
     assert_eq!(pool.estimate(), 0);
-    pool.gives(numbered(Spill, 9), "18 0 0 2 5 0");
+    pool.gives(numbered(CheckSpill, 9), "18 0 0 2 5 0");
 }
 
 #[test]
@@ -267,7 +267,7 @@ fn dirty_and_spilled_may_go_and_is_not_clean() {
     assert_eq!(pool.estimate(), 1);
     pool.gives(keyed(Delete, 5), "6 5 0 1 5 0");
     pool.gives(optional(Clear, 0), "6 5 0 1 5 0");
-    pool.gives(numbered(FrameRemoval, 0), "0 0 0 1 5 0");
+    pool.gives(numbered(RemoveFrames, 0), "0 0 0 1 5 0");
     pool.gives(evict_one(), "0 0 0 0 - 1 50");
 }
 
@@ -448,14 +448,14 @@ fn frame_removal_takes_clean_tagged_pages_above_the_limit() {
     pool.done(frame(7, LOADED, 9));
     pool.done(frame(8, tagged | flag::DIRTY, 9));
     pool.done(frame(4, tagged, u64::MAX));
-    pool.gives(numbered(FrameRemoval, u64::MAX), "0 0 0 5 5 0");
-    pool.gives(numbered(FrameRemoval, 7), "0 0 0 3 5 2 40 60");
+    pool.gives(numbered(RemoveFrames, u64::MAX), "0 0 0 5 5 0");
+    pool.gives(numbered(RemoveFrames, 7), "0 0 0 3 5 2 40 60");
     let locked = Record {
         number: 7,
         ..flagged(WriteRecord, 5, tagged | flag::LOCKED)
     };
     pool.done(locked);
-    pool.gives_and_keeps_state(numbered(FrameRemoval, 6), "5 5 0 3 5 0");
+    pool.gives_and_keeps_state(numbered(RemoveFrames, 6), "5 5 0 3 5 0");
 }
 
 #[test]
@@ -469,7 +469,7 @@ fn clear_tests_dirty_only() {
     pool.done(stuck);
     pool.done(flagged(Insert, 5, DIRTY));
     pool.done(insert(7));
-    pool.done(optional(SpillSwitch, 0));
+    pool.done(optional(SetSpill, 0));
     pool.gives_and_keeps_state(optional(Clear, 0), "6 5 0 3 6 0");
     pool.gives(optional(Clear, 1), "0 0 0 0 - 3 50 60 70");
     let state = pool.state();
@@ -481,7 +481,7 @@ fn clear_tests_dirty_only() {
 fn a_second_creation_resets_everything_and_lists_nothing() {
     let mut pool = Pool::created(9);
     pool.done(insert(5));
-    pool.done(optional(SpillSwitch, 0));
+    pool.done(optional(SetSpill, 0));
     pool.gives(create(2), "0 0 0 0 - 0");
     assert_eq!(pool.state().to_string(), "- 2 1 0 0");
 }

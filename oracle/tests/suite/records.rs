@@ -22,10 +22,13 @@ fn each_field_stands_in_its_place() {
 }
 
 #[test]
-fn operations_have_the_numbers_0_to_16() {
+fn operations_are_numbered_from_0_on() {
     for number in 0..=u8::MAX {
         let operation = Operation::from_number(number);
-        assert_eq!(operation.is_some(), number <= 16);
+        assert_eq!(
+            operation.is_some(),
+            usize::from(number) < Operation::ALL.len()
+        );
         assert!(operation.is_none_or(|operation| operation.number() == number));
     }
 }

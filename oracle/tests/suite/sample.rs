@@ -2,6 +2,7 @@
 //! operation and every answer that the Rust can give.
 
 use crate::binary::output_of;
+use oracle::record::Operation;
 use std::collections::BTreeSet;
 
 const RECORDS: &[u8] = include_bytes!("../../sample/records.bin");
@@ -44,7 +45,7 @@ fn the_readme_has_these_commands() {
 #[test]
 fn every_operation_and_every_answer_is_in_it() {
     let operations: BTreeSet<u8> = RECORDS.chunks(32).map(|record| record[0]).collect();
-    assert!(operations.into_iter().eq(0..=16));
+    assert!(operations.into_iter().eq(0..Operation::ALL.len() as u8));
     let codes: BTreeSet<u8> = ANSWERS
         .lines()
         .map(|line| line.split(' ').next().unwrap().parse().expect("no marks"))
@@ -59,12 +60,16 @@ fn a_full_pool_and_walks_over_several_pages_are_in_it() {
     assert!(ANSWERS
         .lines()
         .any(|line| held(line).as_deref() == Some("256")));
-    for walk in [8, 9, 10] {
+    for walk in [
+        Operation::Truncate,
+        Operation::RemoveFrames,
+        Operation::Clear,
+    ] {
         let removed_several = RECORDS
             .chunks(32)
             .zip(ANSWERS.lines())
-            .filter(|(record, _)| record[0] == walk)
+            .filter(|(record, _)| record[0] == walk.number())
             .any(|(_, line)| field(line, 5).unwrap().parse::<u32>().unwrap() > 1);
-        assert!(removed_several, "operation {walk}");
+        assert!(removed_several, "{walk:?}");
     }
 }

@@ -111,11 +111,11 @@ fn dirty_pages(count: u32) -> Pool {
 fn p8_ten_dirty_pages_are_spilled() {
     let mut pool = dirty_pages(10);
     pool.gives_and_keeps_state(
-        numbered(Spill, 10),
+        numbered(CheckSpill, 10),
         "0 10 0 10 2 10 20 30 40 50 60 70 80 90 100 110",
     );
     // Which three the Rust takes is up to its map; it lists them by key.
-    let answer = pool.call(numbered(Spill, 3));
+    let answer = pool.call(numbered(CheckSpill, 3));
     let handles = answer
         .strip_prefix("0 3 0 10 2 3 ")
         .expect("three are selected");
@@ -129,7 +129,7 @@ fn p8_ten_dirty_pages_are_spilled() {
 #[test]
 fn p9_nine_dirty_pages_need_no_spill() {
     let mut pool = dirty_pages(9);
-    pool.gives_and_keeps_state(numbered(Spill, 3), "18 0 0 9 2 0");
+    pool.gives_and_keeps_state(numbered(CheckSpill, 3), "18 0 0 9 2 0");
 }
 
 #[test]

@@ -121,7 +121,7 @@ fn a_selection() {
     records.extend((1..11).map(|key| flagged(ForceInsert, key, DIRTY)));
     let driver = driver_after(&records);
     let ring = [1, 10, 9, 8, 7, 6, 5, 4, 3, 2];
-    let walk = Walk::asked_for(&numbered(Spill, 2), &driver).expect("a walk");
+    let walk = Walk::asked_for(&numbered(CheckSpill, 2), &driver).expect("a walk");
     assert!(walk.some_order_gives(&after(0, 2, &[20, 30], 0, &ring)));
     assert!(walk.some_order_gives(&after(0, 2, &[40, 90], 0, &ring)));
     // Too few, too many, not by key, and page 1, which is never spilled.
@@ -141,7 +141,7 @@ fn a_selection() {
         ),
         (0, after(19, 0, &[], 0, &ring)),
     ] {
-        let walk = Walk::asked_for(&numbered(Spill, most), &driver).expect("a walk");
+        let walk = Walk::asked_for(&numbered(CheckSpill, most), &driver).expect("a walk");
         assert_eq!(walk.by_ascending_key(&answer.answer), None);
     }
 }
