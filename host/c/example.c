@@ -4,19 +4,18 @@
 
 #include "page_cache.h"
 
-PC_STATIC_POOL(pool, 8);
-
-static uint64_t answer[PC_ANSWER_NUMBERS];
+enum { SLOTS = 8 };
+PC_STATIC_POOL(pool, SLOTS);
 
 /* Carries the record out and writes its answer: code, value, passed, held, hand's key, and what left the cache. */
 static void call(const char *what, struct pc_record record)
 {
-    const uint32_t code = pc_pool_apply(&pool, &record, answer);
-    printf("%-10s code %" PRIu32 ", value %" PRIu64 ", passed %" PRIu64 ", held %" PRIu64, what, code, answer[PC_ANSWER_VALUE],
-           answer[PC_ANSWER_PASSED], answer[PC_ANSWER_HELD]);
-    if (answer[PC_ANSWER_HAND] != PC_NO_KEY)
-        printf(", hand at key %" PRIu64, answer[PC_ANSWER_HAND]);
-    for (uint64_t i = 0; i < answer[PC_ANSWER_LISTED]; i++)
+    const struct pc_answer answer = pc_pool_call(&pool, &record);
+    printf("%-10s %s, value %" PRIu32 ", passed %" PRIu64 ", held %" PRIu32, what, pc_code_name(answer.code), answer.value,
+           answer.passed, answer.held);
+    if (answer.hand != PC_NO_KEY)
+        printf(", hand at key %" PRIu64, answer.hand);
+    for (uint32_t i = 0; i < answer.listed; i++)
         printf(", out: %" PRIu32, pool.list[i]);
     printf("\n");
 }
@@ -31,22 +30,28 @@ static struct pc_record by_key(uint8_t operation, uint32_t key)
     return (struct pc_record){.operation = operation, .key = key};
 }
 
+/* Whether the memory is a cache. */
+static void test(const char *what)
+{
+    printf("%-10s %s\n", what, pc_code_name(pc_pool_test(&pool)));
+}
+
 /* Every held page in sweep order, with its use count. */
 static void list(void)
 {
-    static uint64_t pages[8 * PC_PAGE_NUMBERS];
+    static uint64_t numbers[SLOTS][PC_PAGE_NUMBERS];
     printf("ring      ");
-    if (pc_pool_list(&pool, pages, sizeof pages / sizeof *pages) == PC_DONE)
-        for (uint64_t i = 0; i < pool.head[1]; i++)
-            printf(" %" PRIu64 "(%" PRIu64 ")", pages[i * PC_PAGE_NUMBERS], pages[i * PC_PAGE_NUMBERS + 7]);
+    if (pc_pool_list(&pool, numbers[0], SLOTS * PC_PAGE_NUMBERS) == PC_DONE)
+        for (uint64_t i = 0; i < pool.head[PC_HEAD_HELD]; i++)
+            printf(" %" PRIu64 "(%" PRIu64 ")", numbers[i][PC_PAGE_KEY], numbers[i][PC_PAGE_USES]);
     printf("\n");
 }
 
 int main(void)
 {
-    printf("zeros      test %" PRIu32 "\n", pc_pool_test(&pool));
-    printf("create     code %" PRIu32 "\n", pc_pool_create(&pool, 2));
-    printf("created    test %" PRIu32 "\n", pc_pool_test(&pool));
+    test("zeros");
+    printf("create     %s\n", pc_code_name(pc_pool_create(&pool, 2)));
+    test("created");
     call("insert 10", insertion(10, 100));
     call("insert 20", insertion(20, 200));
     call("get 10", by_key(PC_OP_GET, 10));
@@ -54,10 +59,11 @@ int main(void)
     call("insert 30", insertion(30, 300));
     list();
     call("get 20", by_key(PC_OP_GET, 20));
-    call("evict", (struct pc_record){.operation = PC_OP_EVICT_ONE});
+    call("evict_one", (struct pc_record){.operation = PC_OP_EVICT_ONE});
     list();
+    call("255", (struct pc_record){.operation = 255});
     pool.marks[0] ^= 1;
-    printf("damaged    test %" PRIu32 "\n", pc_pool_test(&pool));
+    test("damaged");
     call("get 10", by_key(PC_OP_GET, 10));
     return 0;
 }

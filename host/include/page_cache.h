@@ -1,7 +1,8 @@
 /* The proved page cache, for C. Link libpage_cache_c.a, which tools/library makes, for Linux on x86-64 or Arm (aarch64).
  *
  * The four functions are total: any lengths and any contents of what they are lent get a defined answer, and a refusal alters
- * nothing. What each does, to the last word, is its contract in crates/page_cache_c/specs/Exports.antt, and it is proved.
+ * nothing but what its code says. What each does, to the last word, is its contract in crates/page_cache_c/specs/Exports.antt, and
+ * it is proved.
  *
  * What C has to see to, since no proof can: a pointer is not null and has as many elements behind it as the length beside it
  * says, and two things that are lent to one call don't overlap.
@@ -14,7 +15,10 @@
  *     uint64_t marks[PC_MARK_WORDS(S)];       a bit for each free slot
  *     uint64_t head[PC_HEAD_NUMBERS];         capacity, held, hand, spill switch, estimate
  *
- * A call is lent a list for handles too. A list of S places is always long enough. */
+ * A call is lent a list for handles too. A list of S places is always long enough.
+ *
+ * One thread at a time: nothing here locks. The functions keep nothing between calls but what they are lent, so that each thread may
+ * have a pool of its own. A pool that threads share needs a lock around each call and around what is read of its list and head. */
 #ifndef PAGE_CACHE_H
 #define PAGE_CACHE_H
 
@@ -36,6 +40,37 @@ extern "C" {
 #define PC_ANSWER_NUMBERS 6
 /* The numbers that pc_list writes to a page. */
 #define PC_PAGE_NUMBERS 8
+
+/* The places of a head's numbers. */
+enum pc_head_place {
+    PC_HEAD_CAPACITY = 0,     /* how many pages insertion makes room for */
+    PC_HEAD_HELD = 1,         /* pages held */
+    PC_HEAD_HAND = 2,         /* the hand's slot, or 0 if nothing is held */
+    PC_HEAD_SPILL = 3,        /* the spill switch, 0 or 1 */
+    PC_HEAD_ESTIMATE = 4      /* the estimate of evictable pages */
+};
+
+/* The places of a listed page's numbers. */
+enum pc_page_place {
+    PC_PAGE_KEY = 0,
+    PC_PAGE_HANDLE = 1,
+    PC_PAGE_FLAGS = 2,        /* enum pc_flag */
+    PC_PAGE_PINS = 3,
+    PC_PAGE_HOLDERS = 4,
+    PC_PAGE_CELLS = 5,        /* overflow cells */
+    PC_PAGE_FRAME = 6,
+    PC_PAGE_USES = 7          /* the use count, 0 to 3 */
+};
+
+/* The places of an answer's numbers. */
+enum pc_answer_place {
+    PC_ANSWER_CODE = 0,       /* enum pc_code */
+    PC_ANSWER_VALUE = 1,      /* found or replaced handle, refusing key, number selected, else 0 */
+    PC_ANSWER_PASSED = 2,     /* pages that sweeps passed */
+    PC_ANSWER_HELD = 3,       /* pages held after the call */
+    PC_ANSWER_HAND = 4,       /* the hand's key after the call, or PC_NO_KEY */
+    PC_ANSWER_LISTED = 5      /* handles in the first places of the list */
+};
 
 /* The hand's key in an answer if nothing is held. */
 #define PC_NO_KEY UINT64_C(4294967296)
@@ -62,8 +97,8 @@ enum pc_code {
     PC_NO_SLOT = 13,           /* every slot is taken */
     PC_EMPTY = 14,             /* one page is to be evicted, and none is held */
     PC_TOO_LARGE = 15,         /* the capacity is above the number of slots */
-    PC_BAD_LENGTHS = 16,       /* create: the number of slots or a lent length is wrong; a function for C or Rust: so is the head's
-                                  or the answer's */
+    PC_BAD_LENGTHS = 16,       /* the number of slots or a lent length is wrong (create), or the head's or the answer's length (any
+                                  function for C and Rust) */
     PC_BAD_REPLAY = 17,        /* the replay record's length, operation, option or tail is bad */
     PC_NOT_NEEDED = 18,        /* no spill is needed */
     PC_NONE_SELECTED = 19      /* a spill is needed, and no page was selected */
@@ -112,14 +147,14 @@ struct pc_record {
     uint64_t number;
 };
 
-/* The places of an answer. */
-enum pc_answer {
-    PC_ANSWER_CODE = 0,
-    PC_ANSWER_VALUE = 1,      /* found or replaced handle, refusing key, number selected, else 0 */
-    PC_ANSWER_PASSED = 2,     /* pages that sweeps passed */
-    PC_ANSWER_HELD = 3,       /* pages held after the call */
-    PC_ANSWER_HAND = 4,       /* the hand's key after the call, or PC_NO_KEY */
-    PC_ANSWER_LISTED = 5      /* handles in the first places of the list */
+/* What an answer says. */
+struct pc_answer {
+    enum pc_code code;
+    uint32_t value;           /* found or replaced handle, refusing key, number selected, else 0 */
+    uint64_t passed;          /* pages that sweeps passed */
+    uint32_t held;            /* pages held after the call */
+    uint32_t listed;          /* handles in the first places of the list */
+    uint64_t hand;            /* the hand's key after the call, or PC_NO_KEY */
 };
 
 /* ---- the proved functions ---- */
@@ -152,6 +187,49 @@ uint32_t pc_apply(uint64_t *slots, size_t slots_length, uint32_t *by_key, size_t
 
 /* ---- for convenience: not proved, and no rules of their own ---- */
 
+/* made by tools/calls: names of codes, from docs/answers.tsv */
+/* The name of a code: "done" of PC_DONE. */
+static inline const char *pc_code_name(uint32_t code)
+{
+    switch (code) {
+    case PC_DONE: return "done";
+    case PC_NOT_SOUND: return "not_sound";
+    case PC_BAD_RECORD: return "bad_record";
+    case PC_SHORT_LIST: return "short_list";
+    case PC_ABSENT: return "absent";
+    case PC_LOCKED: return "locked";
+    case PC_DIRTY: return "dirty";
+    case PC_PINNED: return "pinned";
+    case PC_FULL: return "full";
+    case PC_KEY_EXISTS: return "key_exists";
+    case PC_PENDING_EVICTIONS: return "pending_evictions";
+    case PC_OTHER_PAGE: return "other_page";
+    case PC_HANDLE_ELSEWHERE: return "handle_elsewhere";
+    case PC_NO_SLOT: return "no_slot";
+    case PC_EMPTY: return "empty";
+    case PC_TOO_LARGE: return "too_large";
+    case PC_BAD_LENGTHS: return "bad_lengths";
+    case PC_BAD_REPLAY: return "bad_replay";
+    case PC_NOT_NEEDED: return "not_needed";
+    case PC_NONE_SELECTED: return "none_selected";
+    default: return "no code";
+    }
+}
+/* end of what is made */
+
+/* The answer that these numbers are. */
+static inline struct pc_answer pc_answer_of(const uint64_t numbers[PC_ANSWER_NUMBERS])
+{
+    struct pc_answer answer;
+    answer.code = (enum pc_code)numbers[PC_ANSWER_CODE];
+    answer.value = (uint32_t)numbers[PC_ANSWER_VALUE];
+    answer.passed = numbers[PC_ANSWER_PASSED];
+    answer.held = (uint32_t)numbers[PC_ANSWER_HELD];
+    answer.listed = (uint32_t)numbers[PC_ANSWER_LISTED];
+    answer.hand = numbers[PC_ANSWER_HAND];
+    return answer;
+}
+
 /* A pool's arrays, and the list that its calls are lent. */
 struct pc_pool {
     uint64_t *slots;
@@ -163,8 +241,15 @@ struct pc_pool {
     uint64_t head[PC_HEAD_NUMBERS];
 };
 
-/* Static arrays for a pool of S slots, and the pool. */
+#ifdef __cplusplus
+#define PC_STATIC_ASSERT(condition, message) static_assert(condition, message)
+#else
+#define PC_STATIC_ASSERT(condition, message) _Static_assert(condition, message)
+#endif
+
+/* Static arrays for a pool of S slots, and the pool. It is no cache until pc_pool_create has made one of it. */
 #define PC_STATIC_POOL(name, S)                                                                                                   \
+    PC_STATIC_ASSERT((S) >= 1 && (S) <= PC_MAX_SLOTS, "a pool has 1 to PC_MAX_SLOTS slots");                                       \
     static uint64_t name##_slots[PC_SLOT_WORDS(S)], name##_marks[PC_MARK_WORDS(S)];                                                \
     static uint32_t name##_by_key[PC_INDEX_PLACES(S)], name##_by_handle[PC_INDEX_PLACES(S)], name##_list[S];                       \
     static struct pc_pool name = {name##_slots, name##_by_key, name##_by_handle, name##_marks, name##_list, (S), {0}}
@@ -206,6 +291,14 @@ static inline uint32_t pc_pool_apply(struct pc_pool *p, const struct pc_record *
     pc_pack(bytes, r);
     return pc_apply(p->slots, PC_SLOT_WORDS(p->size), p->by_key, p->size, p->by_handle, p->size, p->marks, PC_MARK_WORDS(p->size),
                     p->head, PC_HEAD_NUMBERS, p->list, p->size, bytes, PC_RECORD_BYTES, answer, PC_ANSWER_NUMBERS);
+}
+
+/* pc_pool_apply, with the answer as a struct. */
+static inline struct pc_answer pc_pool_call(struct pc_pool *p, const struct pc_record *r)
+{
+    uint64_t numbers[PC_ANSWER_NUMBERS];
+    pc_pool_apply(p, r, numbers);
+    return pc_answer_of(numbers);
 }
 
 #ifdef __cplusplus
