@@ -103,6 +103,23 @@ def oracle_codes(text):
     return re.findall(r'pub const (\w+): (?:u8|usize) = ([0-9]+);', block(text, 'pub mod code {', '}'))
 
 
+def crate_operations(text):
+    """Of the Rust crate: each operation, its number, and the method that its documentation names."""
+    operations = block(text, 'Operation: u8 {', '\n    }\n')
+    return [(name, int(number), method)
+            for method, name, number in re.findall(r'/// \[`crate::PageCache::(\w+)`\]\n +(\w+) = ([0-9]+),', operations)]
+
+
+def crate_codes(text):
+    return [(name, int(number)) for name, number in re.findall(r'(\w+) = ([0-9]+),', block(text, 'Code: u32 {', '\n    }\n'))]
+
+
+def crate_errors(text):
+    """Of the Rust crate: each error, and whether it carries a key."""
+    errors = re.sub(' *///.*\n', '', block(text, 'pub enum CacheError {\n', '\n}\n'))
+    return [(name, bool(key)) for name, key in re.findall(r'(\w+)( \{\s*pgno: usize,\s*\})?,', errors)]
+
+
 def long_run(text):
     """Of DIFFERENCES.md: each operation, and the codes that it was answered with."""
     rows = re.findall(r'^\| ([^|]*) \| ([^|]*) \|$', block(text, '| operation | agreed answers, code: times |\n', '\n\n'), re.M)
@@ -124,6 +141,7 @@ def long_run_of_the_table():
 REQUEST, DISPATCH = 'crates/replay_record/specs/Request.antt', 'crates/dispatch/src/operations.rt'
 ANSWER, CALLS = 'crates/answer/specs/Answer.antt', 'crates/page_cache/src/lib.rt'
 ORACLE, ORACLE_CODES, ORACLE_WORDS = 'oracle/src/record.rs', 'oracle/src/answer.rs', 'oracle/src/compare/words.rs'
+CRATE, CRATE_ERRORS = 'host/rust/src/calls.rs', 'host/rust/src/answer.rs'
 DIFFERENCES, READING = 'docs/DIFFERENCES.md', 'docs/READING.md'
 
 # Of each place: its file, what reads it, what that has to find; and faults, each a text that stands there once and another one.
@@ -169,6 +187,20 @@ PLACES = {
         ('NOT_NEEDED: u8 = 18', 'NOT_NEEDED: u8 = 19'),
         ('pub const EMPTY', 'pub const NOTHING_HELD'),
         ('COUNT: usize = 20', 'COUNT: usize = 21'),
+    ]),
+    'operations of the Rust crate': (
+        CRATE, crate_operations, [(operation.camel(), operation.number, operation.function) for operation in OPERATIONS], [
+            ('Get = 4,', 'Get = 14,'),
+            ('RemoveFrames = 9,', 'FrameRemoval = 9,'),
+            ('::evict_one`]', '::delete`]'),
+        ]),
+    'codes of the Rust crate': (CRATE, crate_codes, CAMEL_ANSWERS, [
+        ('Full = 8,', 'Full = 18,'),
+        ('        Empty = 14,\n', ''),
+    ]),
+    'errors of the Rust crate': (CRATE_ERRORS, crate_errors, [(answer.camel(), answer.gives_key) for answer in ANSWERS[1:]], [
+        ('    /// Every slot is taken.\n    NoSlot,\n', ''),
+        ('    OtherPage,\n', '    AnotherPage,\n'),
     ]),
     'answers in the long run': (DIFFERENCES, long_run, long_run_of_the_table(), [
         ('| get | 0:', '| lookup | 0:'),

@@ -8,6 +8,7 @@ mod proved;
 mod unchanged;
 mod workload;
 
+use page_cache::Record;
 use std::time::Instant;
 use workload::{Load, Shape};
 
@@ -33,14 +34,14 @@ fn compare(pages: usize, load: &Load) {
     let (mut below, mut whole, mut rust) = (Least::new(), Least::new(), Least::new());
     let bytes = load.bytes();
     // whole calls test the memory each time, so that fewer of them are enough
-    let part = &bytes[..32 * load.calls.len().min(2000)];
+    let part = &bytes[..Record::LENGTH * load.calls.len().min(2000)];
     for _ in 0..ROUNDS {
         let mut pool = proved::Pool::ready(pages, load);
         below.round(load.steps(), || pool.run(&bytes));
         let mut cache = unchanged::Cache::ready(pages, load);
         rust.round(load.steps(), || cache.run());
         let mut pool = proved::Pool::ready(pages, load);
-        whole.round(part.len() / 32 * load.looks, || pool.apply_each(part));
+        whole.round(part.len() / Record::LENGTH * load.looks, || pool.apply_each(part));
         cache.check(load, proved::held_after(pages, load));
     }
     println!(

@@ -1,6 +1,7 @@
 //! The soundness test in plain Rust, pass by pass as crate `soundness` has it, with Rust's bounds tests.
 use crate::proved::Pool;
 use crate::workload::{Load, Shape};
+use page_cache::sys;
 
 fn is_free(pool: &Pool, slot: usize) -> bool {
     pool.marks[slot / 64] >> (slot % 64) & 1 == 1
@@ -8,7 +9,7 @@ fn is_free(pool: &Pool, slot: usize) -> bool {
 
 fn lengths_agree(pool: &Pool) -> bool {
     let size = pool.by_key.len();
-    (1..=4096).contains(&size)
+    (1..=sys::MAX_SLOTS).contains(&size)
         && pool.slots.len() == 4 * size
         && pool.by_handle.len() == size
         && pool.marks.len() == size.div_ceil(64)

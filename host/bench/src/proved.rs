@@ -1,6 +1,6 @@
 //! The proved cache.
 use crate::workload::Load;
-use page_cache::sys;
+use page_cache::{sys, Code, Record};
 
 extern "C" {
     fn pc_bench_run(
@@ -23,7 +23,7 @@ impl Pool {
     /// A pool with as many slots as pages fit, and the pages that the load begins with.
     pub fn ready(pages: usize, load: &Load) -> Self {
         let mut pool = Pool {
-            slots: vec![0; 4 * pages],
+            slots: vec![0; sys::SLOT_WORDS * pages],
             by_key: vec![0; pages],
             by_handle: vec![0; pages],
             marks: vec![0; pages.div_ceil(64)],
@@ -31,7 +31,7 @@ impl Pool {
             list: vec![0; pages],
         };
         let Pool { slots, by_key, by_handle, marks, head, .. } = &mut pool;
-        assert_eq!(sys::create(slots, by_key, by_handle, marks, head, pages as u64), 0);
+        assert_eq!(sys::create(slots, by_key, by_handle, marks, head, pages as u64), Code::Done);
         pool.run(&load.held.iter().flat_map(|record| record.bytes()).collect::<Vec<_>>());
         assert_eq!(pool.held(), load.held.len());
         pool
@@ -47,27 +47,27 @@ impl Pool {
                 self.head.as_mut_ptr(), self.head.len(), self.list.as_mut_ptr(), self.list.len(), records.as_ptr(), records.len(),
             )
         };
-        assert_eq!(code, 0);
+        assert_eq!(Code::from_number(code), Some(Code::Done));
     }
 
     /// The records one by one, each with the soundness test before it.
     pub fn apply_each(&mut self, records: &[u8]) {
         let mut answer = [0; sys::ANSWER];
-        for record in records.chunks(32) {
+        for record in records.chunks(Record::LENGTH) {
             let code = sys::apply(
                 &mut self.slots, &mut self.by_key, &mut self.by_handle, &mut self.marks, &mut self.head, &mut self.list,
                 record, &mut answer,
             );
-            assert_ne!(code, 1);
+            assert_ne!(code, Code::NotSound);
         }
     }
 
     pub fn is_sound(&self) -> bool {
-        sys::test(&self.slots, &self.by_key, &self.by_handle, &self.marks, &self.head) == 0
+        sys::test(&self.slots, &self.by_key, &self.by_handle, &self.marks, &self.head) == Code::Done
     }
 
     pub fn held(&self) -> usize {
-        self.head[1] as usize
+        self.head[sys::head::HELD] as usize
     }
 }
 

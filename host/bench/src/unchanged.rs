@@ -1,15 +1,15 @@
 //! The unchanged Rust, with the oracle's stand-ins for pages.
-use crate::workload::{Load, DELETE, GET, INSERT};
+use crate::workload::Load;
 use oracle::record::PageRecord;
 use oracle::storage::page_cache::{PageCache, PageCacheKey};
 use oracle::storage::pager::{take_removed, Page, PageRef};
-use page_cache::Record;
+use page_cache::{Operation, Record};
 use std::hint::black_box;
 use std::sync::Arc;
 
 /// A call with the page that it brings, which is made before the calls are timed.
 struct Call {
-    operation: u8,
+    operation: Operation,
     key: PageCacheKey,
     page: Option<PageRef>,
 }
@@ -19,7 +19,7 @@ fn prepared(record: &Record) -> Call {
     Call {
         operation: record.operation,
         key: PageCacheKey::new(record.key as usize),
-        page: (record.operation == INSERT).then(|| Arc::new(Page::new(record.key, record.handle, &page))),
+        page: (record.operation == Operation::Insert).then(|| Arc::new(Page::new(record.key, record.handle, &page))),
     }
 }
 
@@ -41,10 +41,10 @@ impl Cache {
     pub fn run(&mut self) {
         for call in &mut self.calls {
             match call.operation {
-                INSERT => drop(black_box(self.cache.insert(call.key, call.page.take().expect("a page")))),
-                GET => drop(black_box(self.cache.get(&call.key))),
-                DELETE => drop(black_box(self.cache.delete(call.key))),
-                other => panic!("operation {other}"),
+                Operation::Insert => drop(black_box(self.cache.insert(call.key, call.page.take().expect("a page")))),
+                Operation::Get => drop(black_box(self.cache.get(&call.key))),
+                Operation::Delete => drop(black_box(self.cache.delete(call.key))),
+                other => panic!("{other:?}"),
             }
         }
     }

@@ -1,5 +1,5 @@
 //! The calls that are measured, made before they are timed.
-use page_cache::{Page, PageCache, Record};
+use page_cache::{Code, Operation, Page, PageCache, PageCacheKey, PageHandle, Record};
 
 /// What a load consists of.
 #[derive(Clone, Copy, PartialEq, Eq)]
@@ -43,10 +43,6 @@ pub struct Load {
     pub looks: usize,
 }
 
-pub const INSERT: u8 = 1;
-pub const GET: u8 = 4;
-pub const DELETE: u8 = 6;
-
 /// Xorshift, the same in each run.
 struct Chance(u64);
 
@@ -67,11 +63,11 @@ impl Chance {
 }
 
 fn insertion(key: u32, flags: u8) -> Record {
-    Record { operation: INSERT, key, handle: key, page: Page::with(flags), option: false }
+    Record::new(Operation::Insert).with_key(PageCacheKey(key)).with_handle(PageHandle(key)).with_page(Page::with(flags))
 }
 
-fn by_key(operation: u8, key: u32) -> Record {
-    Record { operation, key, ..Record::default() }
+fn by_key(operation: Operation, key: u32) -> Record {
+    Record::new(operation).with_key(PageCacheKey(key))
 }
 
 /// The calls of the mixed load. A cache tells which lookups miss: the Rust asserts if a key comes again with another page.
@@ -83,8 +79,8 @@ fn mixed(chance: &mut Chance, pages: usize, held: &[Record]) -> Vec<Record> {
     let mut calls = Vec::new();
     while calls.len() < 20_000 {
         let key = 2 + chance.below(pages + pages / 4) as u32;
-        calls.push(by_key(if chance.below(20) == 0 { DELETE } else { GET }, key));
-        if cache.apply(&calls[calls.len() - 1].bytes()).code == 4 {
+        calls.push(by_key(if chance.below(20) == 0 { Operation::Delete } else { Operation::Get }, key));
+        if cache.apply(&calls[calls.len() - 1].bytes()).code == Code::Absent {
             calls.push(insertion(key, Page::LOADED));
             cache.apply(&calls[calls.len() - 1].bytes());
         }
@@ -101,10 +97,15 @@ impl Load {
         let loaded = Page::LOADED;
         let fill = |flags| keys.iter().map(|&key| insertion(key, flags)).collect::<Vec<_>>();
         let (held, calls) = match shape {
-            Shape::Lookup => (fill(loaded), (0..20_000).map(|_| by_key(GET, 2 + chance.below(pages) as u32)).collect()),
+            Shape::Lookup => {
+                (fill(loaded), (0..20_000).map(|_| by_key(Operation::Get, 2 + chance.below(pages) as u32)).collect())
+            }
             Shape::InsertRoom => (Vec::new(), fill(loaded)),
             Shape::InsertEvict => (fill(loaded), (0..10_000).map(|i| insertion(n + 2 + i, loaded)).collect()),
-            Shape::Delete => (fill(loaded), chance.shuffled(keys.clone()).into_iter().map(|key| by_key(DELETE, key)).collect()),
+            Shape::Delete => {
+                let order = chance.shuffled(keys.clone());
+                (fill(loaded), order.into_iter().map(|key| by_key(Operation::Delete, key)).collect())
+            }
             Shape::Look => (fill(loaded | Page::DIRTY), (0..20).map(|i| insertion(n + 2 + i, loaded)).collect()),
             Shape::Mixed => (fill(loaded), mixed(&mut chance, pages, &fill(loaded))),
         };

@@ -1,4 +1,5 @@
 //! What a call answers.
+use crate::calls::Code;
 use crate::record::{PageCacheKey, PageHandle};
 use crate::sys;
 use std::fmt;
@@ -6,8 +7,8 @@ use std::fmt;
 /// All that a call answered, but for the handles: [`crate::PageCache::listed`] has those.
 #[derive(Clone, Copy, Debug, PartialEq, Eq)]
 pub struct Answer {
-    /// Document 01's code, 0 to 19.
-    pub code: u32,
+    /// Document 01's code.
+    pub code: Code,
     /// Found or replaced handle, refusing key, number selected, else 0.
     pub value: u32,
     /// Pages that sweeps passed.
@@ -21,11 +22,14 @@ pub struct Answer {
 }
 
 impl Answer {
-    /// The answer that these numbers are. They fit, by the contract of the function that wrote them.
-    pub(crate) fn of(numbers: [u64; sys::ANSWER]) -> Self {
-        let [code, value, passed, held, hand, listed] = numbers;
+    /// What is answered before any call.
+    pub(crate) const NONE: Answer = Answer { code: Code::Done, value: 0, passed: 0, held: 0, hand: None, listed: 0 };
+
+    /// The answer that these numbers are. They fit, by the contract of the function that wrote them with this code.
+    pub(crate) fn of(code: Code, numbers: [u64; sys::ANSWER]) -> Self {
+        let [_, value, passed, held, hand, listed] = numbers;
         Answer {
-            code: code as u32,
+            code,
             value: value as u32,
             passed,
             held: held as u32,
@@ -33,14 +37,33 @@ impl Answer {
             listed: listed as u32,
         }
     }
+
+    /// Why the call was refused, unless it was done.
+    ///
+    /// ```
+    /// # use page_cache::{CacheError, PageCache};
+    /// let mut cache = PageCache::new(4, 2)?;
+    /// assert_eq!(cache.apply(&[255; 32]).error(), Some(CacheError::BadReplay));
+    /// # Ok::<(), CacheError>(())
+    /// ```
+    pub fn error(&self) -> Option<CacheError> {
+        CacheError::of(self.code, self.value)
+    }
 }
 
-/// Why a call was refused: the original's cases. A refusal that the original doesn't have is an internal error, and
-/// [`crate::PageCache::last`] has its code.
-#[derive(Clone, Debug, PartialEq, Eq)]
+/// Why a call was refused: a case for each code but [`Code::Done`]. `Locked`, `Dirty`, `Pinned`, `Full` and `KeyExists` are the
+/// original's; the others stand in the place of its `InternalError`, or for what it asserts or can't meet.
+#[derive(Clone, Copy, Debug, PartialEq, Eq, Hash)]
+#[non_exhaustive]
 pub enum CacheError {
-    /// Codes that the original doesn't have, in words.
-    InternalError(String),
+    /// The memory is not sound.
+    NotSound,
+    /// The page record has flags above 31.
+    BadRecord,
+    /// The list is shorter than the pages held.
+    ShortList,
+    /// The key is absent. Methods that look a key up answer `None` in its place.
+    Absent,
     /// The page is locked.
     Locked {
         /// Its key.
@@ -60,49 +83,85 @@ pub enum CacheError {
     Full,
     /// The key is there, with the same handle. It was touched.
     KeyExists,
+    /// More pages are held than the new capacity, and none of them may go. [`crate::PageCache::resize`] answers
+    /// [`CacheResizeResult::PendingEvictions`] in its place.
+    PendingEvictions,
+    /// The key is there, with another handle.
+    OtherPage,
+    /// The handle stands under another key.
+    HandleElsewhere,
+    /// Every slot is taken.
+    NoSlot,
+    /// One page is to be evicted, and none is held.
+    Empty,
+    /// The capacity is above the number of slots.
+    TooLarge,
+    /// The number of slots or a lent length is wrong.
+    BadLengths,
+    /// The bytes are no record.
+    BadReplay,
+    /// No spill is needed. [`crate::PageCache::check_spill`] answers [`SpillResult::NotNeeded`] in its place.
+    NotNeeded,
+    /// A spill is needed, and no page was selected. [`crate::PageCache::check_spill`] answers [`SpillResult::CacheFull`] in its
+    /// place.
+    NoneSelected,
 }
 
 impl CacheError {
-    /// The error of a code that is not 0.
-    pub(crate) fn of(code: u32, value: u32) -> Self {
+    /// The error of a code, with the value that the answer carries.
+    pub(crate) fn of(code: Code, value: u32) -> Option<Self> {
         let pgno = value as usize;
-        match code {
-            5 => CacheError::Locked { pgno },
-            6 => CacheError::Dirty { pgno },
-            7 => CacheError::Pinned { pgno },
-            8 => CacheError::Full,
-            9 => CacheError::KeyExists,
-            _ => CacheError::InternalError(String::from(match code {
-                1 => "the memory is not sound",
-                2 => "the page record has flags above 31",
-                3 => "the list is shorter than the pages held",
-                4 => "the key is absent",
-                10 => "a resize is pending",
-                11 => "the key is there with another handle",
-                12 => "the handle stands under another key",
-                13 => "every slot is taken",
-                14 => "nothing is held",
-                15 => "the capacity is above the slots",
-                16 => "the lent lengths are wrong",
-                17 => "the bytes are no record",
-                18 => "no spill is needed",
-                19 => "a spill is needed, and no page was selected",
-                _ => "an unknown code",
-            })),
-        }
+        Some(match code {
+            Code::Done => return None,
+            Code::NotSound => CacheError::NotSound,
+            Code::BadRecord => CacheError::BadRecord,
+            Code::ShortList => CacheError::ShortList,
+            Code::Absent => CacheError::Absent,
+            Code::Locked => CacheError::Locked { pgno },
+            Code::Dirty => CacheError::Dirty { pgno },
+            Code::Pinned => CacheError::Pinned { pgno },
+            Code::Full => CacheError::Full,
+            Code::KeyExists => CacheError::KeyExists,
+            Code::PendingEvictions => CacheError::PendingEvictions,
+            Code::OtherPage => CacheError::OtherPage,
+            Code::HandleElsewhere => CacheError::HandleElsewhere,
+            Code::NoSlot => CacheError::NoSlot,
+            Code::Empty => CacheError::Empty,
+            Code::TooLarge => CacheError::TooLarge,
+            Code::BadLengths => CacheError::BadLengths,
+            Code::BadReplay => CacheError::BadReplay,
+            Code::NotNeeded => CacheError::NotNeeded,
+            Code::NoneSelected => CacheError::NoneSelected,
+        })
     }
 }
 
 impl fmt::Display for CacheError {
     fn fmt(&self, f: &mut fmt::Formatter<'_>) -> fmt::Result {
-        match self {
-            CacheError::InternalError(why) => write!(f, "{why}"),
-            CacheError::Locked { pgno } => write!(f, "page {pgno} is locked"),
-            CacheError::Dirty { pgno } => write!(f, "page {pgno} is dirty"),
-            CacheError::Pinned { pgno } => write!(f, "page {pgno} is pinned"),
-            CacheError::Full => write!(f, "Page cache is full"),
-            CacheError::KeyExists => write!(f, "key already exists"),
-        }
+        let why = match self {
+            // the original's words
+            CacheError::Locked { pgno } => return write!(f, "page {pgno} is locked"),
+            CacheError::Dirty { pgno } => return write!(f, "page {pgno} is dirty"),
+            CacheError::Pinned { pgno } => return write!(f, "page {pgno} is pinned"),
+            CacheError::Full => "Page cache is full",
+            CacheError::KeyExists => "key already exists",
+            // ours
+            CacheError::NotSound => "the memory is not sound",
+            CacheError::BadRecord => "the page record has flags above 31",
+            CacheError::ShortList => "the list is shorter than the pages held",
+            CacheError::Absent => "the key is absent",
+            CacheError::PendingEvictions => "more pages are held than the new capacity, and none of them may go",
+            CacheError::OtherPage => "the key is there with another handle",
+            CacheError::HandleElsewhere => "the handle stands under another key",
+            CacheError::NoSlot => "every slot is taken",
+            CacheError::Empty => "one page is to be evicted, and none is held",
+            CacheError::TooLarge => "the capacity is above the number of slots",
+            CacheError::BadLengths => "the number of slots or a lent length is wrong",
+            CacheError::BadReplay => "the bytes are no record",
+            CacheError::NotNeeded => "no spill is needed",
+            CacheError::NoneSelected => "a spill is needed, and no page was selected",
+        };
+        f.write_str(why)
     }
 }
 

@@ -1,10 +1,22 @@
 //! The cache.
 use crate::answer::{Answer, CacheError, CacheResizeResult, SpillResult};
+use crate::calls::{Code, Operation};
 use crate::memory::Memory;
 use crate::record::{ListedPage, Page, PageCacheKey, PageHandle, Record};
 use crate::sys;
+use std::fmt;
 
 /// A page cache in memory of its own, or in the caller's.
+///
+/// One thread at a time: a call takes the cache by `&mut`, and nothing here locks.
+///
+/// ```
+/// # use page_cache::{Page, PageCache, PageCacheKey, PageHandle};
+/// let mut cache = PageCache::new(256, 200)?;
+/// cache.insert(PageCacheKey(10), PageHandle(100), Page::loaded())?;
+/// assert_eq!(cache.get(PageCacheKey(10))?, Some(PageHandle(100)));
+/// # Ok::<(), page_cache::CacheError>(())
+/// ```
 pub struct PageCache<'a> {
     memory: Memory<'a>,
     /// The handles that the last call listed are in its first places.
@@ -22,7 +34,7 @@ impl PageCache<'static> {
     /// ```
     pub fn new(slots: usize, capacity: u64) -> Result<Self, CacheError> {
         // so that nothing is set aside for a pool that is refused
-        let mut cache = PageCache::over(Memory::owned(slots.min(4097)));
+        let mut cache = PageCache::over(Memory::owned(slots.min(sys::MAX_SLOTS + 1)));
         cache.create(capacity)?;
         Ok(cache)
     }
@@ -43,14 +55,14 @@ impl<'a> PageCache<'a> {
     /// ```
     pub fn over(memory: Memory<'a>) -> Self {
         let list = vec![0; memory.by_key.len()].into();
-        PageCache { memory, list, last: Answer::of([0, 0, 0, 0, sys::NO_KEY, 0]) }
+        PageCache { memory, list, last: Answer::NONE }
     }
 
     /// Carries out the replay record that these bytes are. Every other call is made by this one.
     pub fn apply(&mut self, bytes: &[u8]) -> Answer {
         let mut numbers = [0; sys::ANSWER];
         let memory = &mut self.memory;
-        sys::apply(
+        let code = sys::apply(
             &mut memory.slots,
             &mut memory.by_key,
             &mut memory.by_handle,
@@ -60,7 +72,7 @@ impl<'a> PageCache<'a> {
             bytes,
             &mut numbers,
         );
-        self.last = Answer::of(numbers);
+        self.last = Answer::of(code, numbers);
         self.last
     }
 
@@ -69,22 +81,27 @@ impl<'a> PageCache<'a> {
     }
 
     /// A call that is done, or refused.
-    fn done(&mut self, record: Record) -> Result<Answer, CacheError> {
-        let answer = self.call(record);
-        match answer.code {
-            0 => Ok(answer),
-            code => Err(CacheError::of(code, answer.value)),
-        }
+    fn done(&mut self, record: Record) -> Result<(), CacheError> {
+        self.call(record).error().map_or(Ok(()), Err)
     }
 
     /// A call about a key that may be absent.
     fn found(&mut self, record: Record) -> Result<Option<PageHandle>, CacheError> {
         let answer = self.call(record);
-        match answer.code {
-            0 => Ok(Some(PageHandle(answer.value))),
-            4 => Ok(None),
-            code => Err(CacheError::of(code, answer.value)),
+        match answer.error() {
+            None => Ok(Some(PageHandle(answer.value))),
+            Some(CacheError::Absent) => Ok(None),
+            Some(error) => Err(error),
         }
+    }
+
+    /// What a call answers that alters nothing and lists nothing. [`PageCache::last`] and [`PageCache::listed`] stay those of the
+    /// call before it.
+    fn asked<T>(&mut self, call: impl FnOnce(&mut Self) -> T) -> T {
+        let last = self.last;
+        let answer = call(self);
+        self.last = last;
+        answer
     }
 
     /// What the last call answered.
@@ -93,18 +110,33 @@ impl<'a> PageCache<'a> {
     }
 
     /// The handles that the last call removed, in order of removal, or selected for a spill, by key.
-    pub fn listed(&self) -> Vec<PageHandle> {
-        self.list[..self.last.listed as usize].iter().copied().map(PageHandle).collect()
+    ///
+    /// ```
+    /// # use page_cache::{Page, PageCache, PageCacheKey, PageHandle};
+    /// let mut cache = PageCache::new(4, 2)?;
+    /// cache.insert(PageCacheKey(5), PageHandle(50), Page::loaded())?;
+    /// cache.insert(PageCacheKey(6), PageHandle(60), Page::loaded())?;
+    /// cache.truncate(0)?;
+    /// assert_eq!(cache.listed(), [PageHandle(50), PageHandle(60)]);
+    /// # Ok::<(), page_cache::CacheError>(())
+    /// ```
+    pub fn listed(&self) -> &[PageHandle] {
+        PageHandle::of_numbers(&self.list[..self.last.listed as usize])
     }
 
-    /// The memory, to be kept or looked at.
+    /// The memory, to be looked at.
+    pub fn memory(&self) -> &Memory<'a> {
+        &self.memory
+    }
+
+    /// The memory, to be kept.
     pub fn into_memory(self) -> Memory<'a> {
         self.memory
     }
 
     /// Makes a new cache of the memory: nothing held, spill on.
     pub fn create(&mut self, capacity: u64) -> Result<(), CacheError> {
-        self.done(Record::number(0, capacity)).map(drop)
+        self.done(Record::new(Operation::Create).with_number(capacity))
     }
 
     /// Inserts a page under an absent or stale key, and makes room for it.
@@ -118,12 +150,12 @@ impl<'a> PageCache<'a> {
     /// # Ok::<(), CacheError>(())
     /// ```
     pub fn insert(&mut self, key: PageCacheKey, handle: PageHandle, page: Page) -> Result<(), CacheError> {
-        self.done(Record { operation: 1, key: key.0, handle: handle.0, page, option: false }).map(drop)
+        self.done(Record::new(Operation::Insert).with_key(key).with_handle(handle).with_page(page))
     }
 
     /// Inserts as [`PageCache::insert`] does, and if the cache is full above its capacity.
     pub fn force_insert_page(&mut self, key: PageCacheKey, handle: PageHandle, page: Page) -> Result<(), CacheError> {
-        self.done(Record { operation: 2, key: key.0, handle: handle.0, page, option: false }).map(drop)
+        self.done(Record::new(Operation::ForceInsert).with_key(key).with_handle(handle).with_page(page))
     }
 
     /// Inserts as [`PageCache::force_insert_page`] does, or replaces the page that is there. [`Answer::value`] is then its handle.
@@ -137,22 +169,39 @@ impl<'a> PageCache<'a> {
     /// # Ok::<(), page_cache::CacheError>(())
     /// ```
     pub fn force_upsert_page(&mut self, key: PageCacheKey, handle: PageHandle, page: Page) -> Result<(), CacheError> {
-        self.done(Record { operation: 3, key: key.0, handle: handle.0, page, option: false }).map(drop)
+        self.done(Record::new(Operation::ForceUpsert).with_key(key).with_handle(handle).with_page(page))
     }
 
     /// Looks a page up and touches it. A stale page is deleted, and is not found.
     pub fn get(&mut self, key: PageCacheKey) -> Result<Option<PageHandle>, CacheError> {
-        self.found(Record::key(4, key))
+        self.found(Record::new(Operation::Get).with_key(key))
     }
 
     /// Looks a page up, and touches it only if asked.
     pub fn peek(&mut self, key: PageCacheKey, touch: bool) -> Result<Option<PageHandle>, CacheError> {
-        self.found(Record { option: touch, ..Record::key(5, key) })
+        self.found(Record::new(Operation::Peek).with_key(key).with_option(touch))
+    }
+
+    /// Whether a page stands under the key, stale or not. It is a [`PageCache::peek`] without a touch, which alters nothing.
+    /// [`PageCache::last`] and [`PageCache::listed`] stay as they were. It takes `&mut self`, since the library's function is lent
+    /// the memory to alter it.
+    ///
+    /// ```
+    /// # use page_cache::{Page, PageCache, PageCacheKey, PageHandle};
+    /// let mut cache = PageCache::new(4, 2)?;
+    /// cache.insert(PageCacheKey::new(5), PageHandle(50), Page::default())?;
+    /// assert!(cache.contains_key(PageCacheKey::new(5))?);
+    /// assert_eq!(cache.get(PageCacheKey::new(5))?, None); // it was stale
+    /// assert!(!cache.contains_key(PageCacheKey::new(5))?);
+    /// # Ok::<(), page_cache::CacheError>(())
+    /// ```
+    pub fn contains_key(&mut self, key: PageCacheKey) -> Result<bool, CacheError> {
+        self.asked(|cache| cache.peek(key, false)).map(|found| found.is_some())
     }
 
     /// Deletes a page that is not locked, dirty or pinned. An absent key is done.
     pub fn delete(&mut self, key: PageCacheKey) -> Result<(), CacheError> {
-        self.done(Record::key(6, key)).map(drop)
+        self.done(Record::new(Operation::Delete).with_key(key))
     }
 
     /// Sets the capacity, and evicts while more pages are held.
@@ -167,42 +216,41 @@ impl<'a> PageCache<'a> {
     /// # Ok::<(), page_cache::CacheError>(())
     /// ```
     pub fn resize(&mut self, capacity: u64) -> Result<CacheResizeResult, CacheError> {
-        let answer = self.call(Record::number(7, capacity));
-        match answer.code {
-            0 => Ok(CacheResizeResult::Done),
-            10 => Ok(CacheResizeResult::PendingEvictions),
-            code => Err(CacheError::of(code, answer.value)),
+        match self.call(Record::new(Operation::Resize).with_number(capacity)).error() {
+            None => Ok(CacheResizeResult::Done),
+            Some(CacheError::PendingEvictions) => Ok(CacheResizeResult::PendingEvictions),
+            Some(error) => Err(error),
         }
     }
 
     /// Deletes the pages with a key above the limit, by ascending key, up to the first that refuses.
     pub fn truncate(&mut self, max_page_num: u64) -> Result<(), CacheError> {
-        self.done(Record::number(8, max_page_num)).map(drop)
+        self.done(Record::new(Operation::Truncate).with_number(max_page_num))
     }
 
     /// Deletes clean tagged pages with a frame above the limit, by ascending key, up to the first that refuses.
     pub fn delete_clean_pages_after_wal_frame(&mut self, max_frame: u64) -> Result<(), CacheError> {
-        self.done(Record::number(9, max_frame)).map(drop)
+        self.done(Record::new(Operation::RemoveFrames).with_number(max_frame))
     }
 
     /// Empties the cache, if no page is dirty or dirty pages may go too.
     pub fn clear(&mut self, clear_dirty: bool) -> Result<(), CacheError> {
-        self.done(Record { operation: 10, option: clear_dirty, ..Record::default() }).map(drop)
+        self.done(Record::new(Operation::Clear).with_option(clear_dirty))
     }
 
     /// Tells that a page became dirty: one page less counts as evictable.
     pub fn notify_page_dirty(&mut self, key: PageCacheKey) -> Result<(), CacheError> {
-        self.done(Record::key(11, key)).map(drop)
+        self.done(Record::new(Operation::NotifyDirty).with_key(key))
     }
 
     /// Tells that a page was spilled: one page more counts as evictable.
     pub fn notify_page_spilled(&mut self, key: PageCacheKey) -> Result<(), CacheError> {
-        self.done(Record::key(12, key)).map(drop)
+        self.done(Record::new(Operation::NotifySpilled).with_key(key))
     }
 
     /// Writes a page's record, and says whether the key is there.
     pub fn write_record(&mut self, key: PageCacheKey, page: Page) -> Result<bool, CacheError> {
-        self.found(Record { page, ..Record::key(13, key) }).map(|found| found.is_some())
+        self.found(Record::new(Operation::WriteRecord).with_key(key).with_page(page)).map(|found| found.is_some())
     }
 
     /// Which pages to spill, at most so many, if a spill is needed.
@@ -220,44 +268,71 @@ impl<'a> PageCache<'a> {
     /// # Ok::<(), page_cache::CacheError>(())
     /// ```
     pub fn check_spill(&mut self, max_pages: u64) -> Result<SpillResult, CacheError> {
-        let answer = self.call(Record::number(14, max_pages));
-        match answer.code {
-            0 => Ok(SpillResult::PagesToSpill(self.listed())),
-            18 => Ok(SpillResult::NotNeeded),
-            19 => Ok(SpillResult::CacheFull),
-            code => Err(CacheError::of(code, answer.value)),
+        match self.call(Record::new(Operation::CheckSpill).with_number(max_pages)).error() {
+            None => Ok(SpillResult::PagesToSpill(self.listed().to_vec())),
+            Some(CacheError::NotNeeded) => Ok(SpillResult::NotNeeded),
+            Some(CacheError::NoneSelected) => Ok(SpillResult::CacheFull),
+            Some(error) => Err(error),
         }
+    }
+
+    /// Whether a spill is needed. It is a [`PageCache::check_spill`] of at most 0 pages, which selects none and alters nothing: the
+    /// rule stands in the library alone, where it is proved. [`PageCache::last`] and [`PageCache::listed`] stay as they were. It
+    /// takes `&mut self`, since the library's function is lent the memory to alter it.
+    ///
+    /// ```
+    /// # use page_cache::{Page, PageCache, PageCacheKey, PageHandle};
+    /// let mut cache = PageCache::new(10, 10)?;
+    /// for n in 2..12 {
+    ///     assert!(!cache.needs_spill()?);
+    ///     cache.insert(PageCacheKey(n), PageHandle(n), Page::with(Page::LOADED | Page::DIRTY))?;
+    /// }
+    /// assert!(cache.needs_spill()?);
+    /// # Ok::<(), page_cache::CacheError>(())
+    /// ```
+    pub fn needs_spill(&mut self) -> Result<bool, CacheError> {
+        match self.asked(|cache| cache.check_spill(0))? {
+            SpillResult::NotNeeded => Ok(false),
+            SpillResult::CacheFull | SpillResult::PagesToSpill(_) => Ok(true),
+        }
+    }
+
+    /// Whether spilling is on, as the head says.
+    pub fn is_spill_enabled(&self) -> bool {
+        self.memory.head[sys::head::SPILL] != 0
     }
 
     /// Evicts one page.
     pub fn evict_one(&mut self) -> Result<(), CacheError> {
-        self.done(Record { operation: 15, ..Record::default() }).map(drop)
+        self.done(Record::new(Operation::EvictOne))
     }
 
     /// Turns spilling on or off.
     pub fn set_spill_enabled(&mut self, enabled: bool) -> Result<(), CacheError> {
-        self.done(Record { operation: 16, option: enabled, ..Record::default() }).map(drop)
+        self.done(Record::new(Operation::SetSpill).with_option(enabled))
     }
 
     /// Every held page, in sweep order from the hand.
     pub fn list(&self) -> Result<Vec<ListedPage>, CacheError> {
         let memory = &self.memory;
-        let mut numbers = vec![0; ListedPage::NUMBERS * memory.by_key.len()];
-        match sys::list(&memory.slots, &memory.by_key, &memory.by_handle, &memory.marks, &memory.head, &mut numbers) {
-            0 => Ok(numbers.chunks(ListedPage::NUMBERS).take(self.len()).map(ListedPage::of).collect()),
-            code => Err(CacheError::of(code, 0)),
+        let mut pages = vec![[0; ListedPage::NUMBERS]; memory.by_key.len()];
+        let numbers = pages.as_flattened_mut();
+        let code = sys::list(&memory.slots, &memory.by_key, &memory.by_handle, &memory.marks, &memory.head, numbers);
+        match CacheError::of(code, 0) {
+            None => Ok(pages.into_iter().take(self.len()).map(ListedPage::of).collect()),
+            Some(error) => Err(error),
         }
     }
 
     /// Whether the memory holds a cache.
     pub fn is_sound(&self) -> bool {
         let memory = &self.memory;
-        sys::test(&memory.slots, &memory.by_key, &memory.by_handle, &memory.marks, &memory.head) == 0
+        sys::test(&memory.slots, &memory.by_key, &memory.by_handle, &memory.marks, &memory.head) == Code::Done
     }
 
     /// How many pages are held, as the head says.
     pub fn len(&self) -> usize {
-        self.memory.head[1] as usize
+        self.memory.head[sys::head::HELD] as usize
     }
 
     /// Whether nothing is held.
@@ -267,6 +342,12 @@ impl<'a> PageCache<'a> {
 
     /// How many pages insertion makes room for, as the head says.
     pub fn capacity(&self) -> u64 {
-        self.memory.head[0]
+        self.memory.head[sys::head::CAPACITY]
+    }
+}
+
+impl fmt::Debug for PageCache<'_> {
+    fn fmt(&self, f: &mut fmt::Formatter<'_>) -> fmt::Result {
+        f.debug_struct("PageCache").field("memory", &self.memory).field("last", &self.last).field("listed", &self.listed()).finish()
     }
 }

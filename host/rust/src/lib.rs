@@ -2,7 +2,10 @@
 //!
 //! The cache holds pages by key, in a pool of slots, and evicts by a clock hand with use counts from 0 to 3. Pages are the
 //! caller's: the cache knows each by a handle, and by the page record that the caller keeps up to date. Names and results are
-//! the original's; [`PageCache::last`] has the rest of each answer, and [`PageCache::listed`] the handles that left the cache.
+//! the original's, and every refusal is a [`CacheError`] of its own. [`PageCache::last`] has the rest of each answer, and
+//! [`PageCache::listed`] the handles that left the cache.
+//!
+//! One thread at a time: nothing here locks. A cache that threads share needs a lock around it, a `Mutex<PageCache>`.
 //!
 //! ```
 //! use page_cache::{Page, PageCache, PageCacheKey, PageHandle};
@@ -22,11 +25,13 @@
 
 mod answer;
 mod cache;
+mod calls;
 mod memory;
 mod record;
 pub mod sys;
 
 pub use answer::{Answer, CacheError, CacheResizeResult, SpillResult};
 pub use cache::PageCache;
+pub use calls::{Code, Operation};
 pub use memory::Memory;
 pub use record::{ListedPage, Page, PageCacheKey, PageHandle, Record};

@@ -1,5 +1,6 @@
 //! The memory of a pool: owned, or lent by the caller.
 use crate::sys;
+use std::fmt;
 use std::ops::{Deref, DerefMut};
 
 /// A slice that is owned or lent.
@@ -41,10 +42,10 @@ impl Memory<'static> {
     /// Zeros for so many slots. That is no cache yet.
     pub fn owned(slots: usize) -> Self {
         Memory {
-            slots: Part::Owned(vec![0; 4 * slots].into()),
+            slots: Part::Owned(vec![0; sys::SLOT_WORDS * slots].into()),
             by_key: Part::Owned(vec![0; slots].into()),
             by_handle: Part::Owned(vec![0; slots].into()),
-            marks: Part::Owned(vec![0; slots.div_ceil(64)].into()),
+            marks: Part::Owned(vec![0; slots.div_ceil(u64::BITS as usize)].into()),
             head: [0; sys::HEAD],
         }
     }
@@ -65,8 +66,46 @@ impl<'a> Memory<'a> {
         }
     }
 
-    /// The head's five numbers.
+    /// The slots, four words to each.
+    pub fn slots(&self) -> &[u64] {
+        &self.slots
+    }
+
+    /// The held slots by ascending key, then zeros.
+    pub fn by_key(&self) -> &[u32] {
+        &self.by_key
+    }
+
+    /// The held slots by ascending handle, then zeros.
+    pub fn by_handle(&self) -> &[u32] {
+        &self.by_handle
+    }
+
+    /// A bit for each free slot.
+    pub fn marks(&self) -> &[u64] {
+        &self.marks
+    }
+
+    /// The head's numbers, in the places that [`sys::head`] names.
     pub fn head(&self) -> [u64; sys::HEAD] {
         self.head
+    }
+}
+
+/// How large the parts are, and the head: the parts themselves would be thousands of numbers.
+impl fmt::Debug for Memory<'_> {
+    fn fmt(&self, f: &mut fmt::Formatter<'_>) -> fmt::Result {
+        let [capacity, held, hand, spill, estimate] = self.head;
+        f.debug_struct("Memory")
+            .field("slot_words", &self.slots.len())
+            .field("by_key", &self.by_key.len())
+            .field("by_handle", &self.by_handle.len())
+            .field("mark_words", &self.marks.len())
+            .field("capacity", &capacity)
+            .field("held", &held)
+            .field("hand", &hand)
+            .field("spill", &spill)
+            .field("estimate", &estimate)
+            .finish()
     }
 }

@@ -1,13 +1,30 @@
 //! Keys, handles, page records, and the 32 bytes of a call.
+use crate::calls::Operation;
+use crate::sys;
 
 /// A page's key, which is also its id.
 #[derive(Clone, Copy, Debug, PartialEq, Eq, PartialOrd, Ord, Hash)]
 pub struct PageCacheKey(pub u32);
 
+impl PageCacheKey {
+    /// The key of the page with this number.
+    pub const fn new(pgno: u32) -> Self {
+        PageCacheKey(pgno)
+    }
+}
+
 /// The caller's name for a page. Equal handles mean the same page.
 #[derive(Clone, Copy, Debug, PartialEq, Eq, PartialOrd, Ord, Hash)]
 #[repr(transparent)]
 pub struct PageHandle(pub u32);
+
+impl PageHandle {
+    /// The handles that these numbers are.
+    pub(crate) fn of_numbers(numbers: &[u32]) -> &[PageHandle] {
+        // a handle is a number and nothing else: `repr(transparent)`
+        unsafe { std::slice::from_raw_parts(numbers.as_ptr().cast(), numbers.len()) }
+    }
+}
 
 /// A page record: what the cache is told of a page.
 #[derive(Clone, Copy, Debug, Default, PartialEq, Eq)]
@@ -62,30 +79,25 @@ pub struct ListedPage {
 
 impl ListedPage {
     /// The numbers of a page in a listing.
-    pub const NUMBERS: usize = 8;
+    pub const NUMBERS: usize = sys::PAGE;
 
-    /// The page of eight numbers of a listing. They fit, since the listing is one of a sound pool.
-    pub(crate) fn of(numbers: &[u64]) -> Self {
+    /// The page of these numbers of a listing. They fit, since the listing is one of a sound pool.
+    pub(crate) fn of(numbers: [u64; sys::PAGE]) -> Self {
+        let [key, handle, flags, pins, holders, cells, frame, uses] = numbers;
         ListedPage {
-            key: PageCacheKey(numbers[0] as u32),
-            handle: PageHandle(numbers[1] as u32),
-            page: Page {
-                flags: numbers[2] as u8,
-                pins: numbers[3] as u16,
-                holders: numbers[4] as u16,
-                cells: numbers[5] as u8,
-                frame: numbers[6],
-            },
-            uses: numbers[7] as u8,
+            key: PageCacheKey(key as u32),
+            handle: PageHandle(handle as u32),
+            page: Page { flags: flags as u8, pins: pins as u16, holders: holders as u16, cells: cells as u8, frame },
+            uses: uses as u8,
         }
     }
 }
 
 /// A call as the replay program's records have it.
-#[derive(Clone, Copy, Debug, Default, PartialEq, Eq)]
+#[derive(Clone, Copy, Debug, PartialEq, Eq)]
 pub struct Record {
-    /// 0 create to 16 spill switch.
-    pub operation: u8,
+    /// Which call it is.
+    pub operation: Operation,
     /// The key, where the call has one.
     pub key: u32,
     /// The handle, where the call has one.
@@ -100,20 +112,40 @@ impl Record {
     /// The length of a record in bytes.
     pub const LENGTH: usize = 32;
 
-    /// A record of this operation, with a number.
-    pub(crate) fn number(operation: u8, number: u64) -> Self {
-        Record { operation, page: Page { frame: number, ..Page::default() }, ..Record::default() }
+    /// A record of this operation whose other fields are zero.
+    pub fn new(operation: Operation) -> Self {
+        Record { operation, key: 0, handle: 0, page: Page::default(), option: false }
     }
 
-    /// A record of this operation, with a key.
-    pub(crate) fn key(operation: u8, key: PageCacheKey) -> Self {
-        Record { operation, key: key.0, ..Record::default() }
+    /// The record with this key.
+    pub fn with_key(self, key: PageCacheKey) -> Self {
+        Record { key: key.0, ..self }
+    }
+
+    /// The record with this handle.
+    pub fn with_handle(self, handle: PageHandle) -> Self {
+        Record { handle: handle.0, ..self }
+    }
+
+    /// The record with this page record.
+    pub fn with_page(self, page: Page) -> Self {
+        Record { page, ..self }
+    }
+
+    /// The record with this number: a capacity, a limit, or the most to select. It stands in the place of a page's frame.
+    pub fn with_number(self, number: u64) -> Self {
+        Record { page: Page { frame: number, ..self.page }, ..self }
+    }
+
+    /// The record with this option.
+    pub fn with_option(self, option: bool) -> Self {
+        Record { option, ..self }
     }
 
     /// The record's bytes, little-endian.
     pub fn bytes(self) -> [u8; Self::LENGTH] {
         let mut bytes = [0; Self::LENGTH];
-        bytes[0] = self.operation;
+        bytes[0] = self.operation.number();
         bytes[1] = self.page.flags;
         bytes[2..4].copy_from_slice(&self.page.pins.to_le_bytes());
         bytes[4..8].copy_from_slice(&self.key.to_le_bytes());

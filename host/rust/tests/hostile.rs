@@ -2,7 +2,7 @@
 //! byte for byte; nothing outside of what is lent may be altered in any case; what is sound before a call is sound after it.
 //!
 //! `HOSTILE_CALLS` sets how many calls are made, `HOSTILE_SEED` from where.
-use page_cache::{sys, Page, Record};
+use page_cache::{sys, Code, Operation, Page, PageCacheKey, PageHandle, Record};
 
 /// Xorshift: enough for a test, and the same everywhere.
 struct Chance(u64);
@@ -41,11 +41,19 @@ impl Chance {
             cells: (self.below(5) == 0) as u8,
             frame: if self.below(4) == 0 { self.odd() } else { self.below(keys) },
         };
-        let operation = if self.below(3) == 0 { 1 + self.below(3) } else { self.below(17) };
+        let operations = if self.below(3) == 0 { &INSERTIONS } else { Operation::ALL };
+        let operation = self.one_of(operations);
         let (key, handle) = (self.below(keys) as u32, self.below(keys) as u32);
-        Record { operation: operation as u8, key, handle, page, option: self.below(2) == 1 }
+        let record = Record::new(operation).with_key(PageCacheKey(key)).with_handle(PageHandle(handle)).with_page(page);
+        record.with_option(self.below(2) == 1)
+    }
+
+    fn one_of(&mut self, operations: &[Operation]) -> Operation {
+        operations[self.below(operations.len() as u64) as usize]
     }
 }
+
+const INSERTIONS: [Operation; 3] = [Operation::Insert, Operation::ForceInsert, Operation::ForceUpsert];
 
 /// Elements that stand on both sides of what is lent.
 const MARGIN: usize = 3;
@@ -92,35 +100,35 @@ struct Lent {
 impl Lent {
     fn for_slots(size: usize) -> Self {
         Lent {
-            slots: Part::new(4 * size),
+            slots: Part::new(sys::SLOT_WORDS * size),
             by_key: Part::new(size),
             by_handle: Part::new(size),
             marks: Part::new(size.div_ceil(64)),
             head: Part::new(sys::HEAD),
             list: Part::new(size),
             answer: Part::new(sys::ANSWER),
-            pages: Part::new(8 * size),
+            pages: Part::new(sys::PAGE * size),
         }
     }
 
-    fn create(&mut self, capacity: u64) -> u32 {
+    fn create(&mut self, capacity: u64) -> Code {
         sys::create(
             self.slots.lent(), self.by_key.lent(), self.by_handle.lent(), self.marks.lent(), self.head.lent(), capacity,
         )
     }
 
-    fn test(&self) -> u32 {
+    fn test(&self) -> Code {
         sys::test(self.slots.seen(), self.by_key.seen(), self.by_handle.seen(), self.marks.seen(), self.head.seen())
     }
 
-    fn list(&mut self) -> u32 {
+    fn list(&mut self) -> Code {
         sys::list(
             self.slots.seen(), self.by_key.seen(), self.by_handle.seen(), self.marks.seen(), self.head.seen(),
             self.pages.lent(),
         )
     }
 
-    fn apply(&mut self, record: &[u8]) -> u32 {
+    fn apply(&mut self, record: &[u8]) -> Code {
         sys::apply(
             self.slots.lent(), self.by_key.lent(), self.by_handle.lent(), self.marks.lent(), self.head.lent(),
             self.list.lent(), record, self.answer.lent(),
@@ -147,14 +155,14 @@ fn sound_pool(chance: &mut Chance) -> Lent {
         _ => 1 + chance.below(9) as usize,
     };
     let mut pool = Lent::for_slots(size);
-    assert_eq!(pool.create(chance.below(size as u64 + 1)), 0);
+    assert_eq!(pool.create(chance.below(size as u64 + 1)), Code::Done);
     let keys = 1 + chance.below(2 * size as u64 + 4);
     for _ in 0..chance.below(3 * size as u64 + 8) {
         let mut record = chance.record(keys);
-        record.operation = if chance.below(2) == 0 { 1 + chance.below(3) as u8 } else { 4 };
+        record.operation = if chance.below(2) == 0 { chance.one_of(&INSERTIONS) } else { Operation::Get };
         pool.apply(&record.bytes());
     }
-    assert_eq!(pool.test(), 0);
+    assert_eq!(pool.test(), Code::Done);
     pool
 }
 
@@ -236,35 +244,43 @@ fn bytes(chance: &mut Chance) -> Vec<u8> {
     bytes
 }
 
+/// Of every call: a refusal with this code leaves all that was lent as it was, but for the answer.
+fn alters_nothing(code: Code) -> bool {
+    use Code::*;
+    let may_alter = [Done, Absent, Locked, Dirty, Pinned, Full, KeyExists, PendingEvictions];
+    !may_alter.contains(&code)
+}
+
 /// One call of `apply` on a copy. What it may leave follows from its code.
-fn try_apply(chance: &mut Chance, pool: &mut Lent, seen: &mut [u64; 20]) {
+fn try_apply(chance: &mut Chance, pool: &mut Lent, seen: &mut [u64]) {
     let before = pool.clone();
     let sound = before.test();
     let record = bytes(chance);
     let code = pool.apply(&record);
-    seen[code as usize] += 1;
+    seen[code.number() as usize] += 1;
     assert!(pool.margins_stand(), "outside of what was lent");
     assert_eq!(pool.pages, before.pages, "what was not lent");
     let long = before.head.seen().len() == sys::HEAD && before.answer.seen().len() == sys::ANSWER;
     if !long {
-        assert_eq!((code, &*pool), (16, &before), "wrong lengths of head or answer");
+        assert_eq!((code, &*pool), (Code::BadLengths, &before), "wrong lengths of head or answer");
         return;
     }
-    assert_eq!(pool.answer.seen()[0], u64::from(code));
-    let bad = record.len() != 32 || record[0] > 16 || record[15] > 1 || record[24..].iter().any(|&b| b != 0);
-    assert_eq!(code == 17, bad, "17 is tested first");
-    if !bad && record[0] != 0 {
-        assert_eq!(code == 1, sound != 0, "1 exactly on memory that is not sound");
+    assert_eq!(pool.answer.seen()[sys::answer::CODE], u64::from(code.number()));
+    let operation = record.first().and_then(|&number| Operation::from_number(number));
+    let bad = record.len() != Record::LENGTH || operation.is_none() || record[15] > 1 || record[24..].iter().any(|&b| b != 0);
+    assert_eq!(code == Code::BadReplay, bad, "a bad record is told first");
+    if !bad && operation != Some(Operation::Create) {
+        assert_eq!(code == Code::NotSound, sound != Code::Done, "exactly on memory that is not sound");
     }
-    if matches!(code, 1..=3 | 11..=19) {
+    if alters_nothing(code) {
         let mut after = pool.clone();
         after.answer = before.answer.clone();
-        assert_eq!(after, before, "code {code}: nothing may be altered");
+        assert_eq!(after, before, "{code:?}: nothing may be altered");
     }
-    if sound == 0 || code == 0 {
-        assert_eq!(pool.test(), 0, "code {code}: sound memory stays sound");
+    if sound == Code::Done || code == Code::Done {
+        assert_eq!(pool.test(), Code::Done, "{code:?}: sound memory stays sound");
     }
-    let listed = pool.answer.seen()[5] as usize;
+    let listed = pool.answer.seen()[sys::answer::LISTED] as usize;
     assert_eq!(pool.list.seen()[listed..], before.list.seen()[listed..], "places past the handles keep their values");
 }
 
@@ -276,21 +292,21 @@ fn try_others(chance: &mut Chance, pool: &Lent) {
     assert!(after.margins_stand());
     let rest = Lent { pages: pool.pages.clone(), ..after.clone() };
     assert_eq!(&rest, pool, "a listing alters nothing but its list");
-    if code != 0 {
-        assert_eq!(&after, pool, "code {code}: nothing may be altered");
-        assert!(code == 3 && sound == 0 || code == sound, "code {code}, test {sound}");
+    if code != Code::Done {
+        assert_eq!(&after, pool, "{code:?}: nothing may be altered");
+        assert!(code == Code::ShortList && sound == Code::Done || code == sound, "{code:?}, test {sound:?}");
     } else {
-        let places = 8 * pool.head.seen()[1] as usize;
+        let places = sys::PAGE * pool.head.seen()[sys::head::HELD] as usize;
         assert_eq!(after.pages.seen()[places..], pool.pages.seen()[places..]);
     }
     let mut after = pool.clone();
     let code = after.create(chance.odd());
     assert!(after.margins_stand());
-    if code == 0 {
-        assert_eq!(after.test(), 0, "what was created is sound");
+    if code == Code::Done {
+        assert_eq!(after.test(), Code::Done, "what was created is sound");
     } else {
-        assert!(matches!(code, 15 | 16));
-        assert_eq!(&after, pool, "code {code}: nothing may be altered");
+        assert!(matches!(code, Code::TooLarge | Code::BadLengths));
+        assert_eq!(&after, pool, "{code:?}: nothing may be altered");
     }
 }
 
@@ -302,7 +318,7 @@ fn asked(name: &str, otherwise: u64) -> u64 {
 fn refusals_alter_nothing() {
     let mut chance = Chance(asked("HOSTILE_SEED", 1) | 1 << 63);
     let calls = asked("HOSTILE_CALLS", 100_000);
-    let mut seen = [0; 20];
+    let mut seen = vec![0; Code::ALL.len()];
     let mut made = 0;
     while made < calls {
         let sound = sound_pool(&mut chance);
@@ -318,10 +334,12 @@ fn refusals_alter_nothing() {
     }
     println!("{made} calls; apply's answers by code: {seen:?}");
     // the test is worth something only if both sides come up: refusals of every kind, and calls that are done
-    for code in [0, 1, 2, 3, 4, 8, 12, 15, 16, 17] {
-        assert!(seen[code] > 0, "code {code} never came");
+    let times = |code: Code| seen[code.number() as usize];
+    use Code::*;
+    for code in [Done, NotSound, BadRecord, ShortList, Absent, Full, HandleElsewhere, TooLarge, BadLengths, BadReplay] {
+        assert!(times(code) > 0, "{code:?} never came");
     }
-    assert!(seen[1] * 20 > made && seen[0] * 20 > made);
+    assert!(times(NotSound) * 20 > made && times(Done) * 20 > made);
 }
 
 #[test]
@@ -344,6 +362,6 @@ fn any_words_of_any_lengths() {
             part.fill_with(|| chance.below(6) as u32);
         }
         try_others(&mut chance, &pool);
-        try_apply(&mut chance, &mut pool, &mut [0; 20]);
+        try_apply(&mut chance, &mut pool, &mut vec![0; Code::ALL.len()]);
     }
 }
