@@ -84,7 +84,7 @@ def code_equations(text):
 
 
 def public_calls(text):
-    return sorted(re.findall(r'^pub use \w+::(\w+);$', text, re.M))
+    return set(re.findall(r'^pub use \w+::(\w+);$', text, re.M))
 
 
 def oracle_operations(text):
@@ -92,7 +92,7 @@ def oracle_operations(text):
 
 
 def all_of_the_oracle(text):
-    return re.findall(r'Operation::(\w+),', block(text, f'ALL: [Operation; {len(OPERATIONS)}] = [', ']'))
+    return re.findall(r'Operation::(\w+),', block(text, 'pub const ALL: [', '];'))
 
 
 def oracle_words(text):
@@ -120,22 +120,22 @@ def crate_errors(text):
     return [(name, bool(key)) for name, key in re.findall(r'(\w+)( \{\s*pgno: usize,\s*\})?,', errors)]
 
 
-def long_run(text):
-    """Of DIFFERENCES.md: each operation, and the codes that it was answered with."""
+def what_is_odd_in_the_long_run(text):
+    """Of DIFFERENCES.md: operations that are none, and codes that an operation can't be answered with."""
+    answers = {operation.name: operation.answers for operation in OPERATIONS}
     rows = re.findall(r'^\| ([^|]*) \| ([^|]*) \|$', block(text, '| operation | agreed answers, code: times |\n', '\n\n'), re.M)
-    return [(name, [int(code) for code in re.findall('([0-9]+):', codes)]) for name, codes in rows if name != 'none of these']
+    if [name for name in answers if name in dict(rows)] + ['none of these'] != [name for name, _ in rows]:
+        return [name for name, _ in rows]
+    # no replay brings about a short list or wrong lengths
+    never = {CODE['short_list'], CODE['bad_lengths']}
+    return [(name, codes) for name, codes in rows[:-1]
+            if not {int(code) for code in re.findall('([0-9]+):', codes)} <= set(answers[name]) - never]
 
 
 def codes_explained(text):
     """Of READING.md: the codes, in order."""
     rows = re.findall(r'^\| ([0-9, ]+) \|', block(text, '| code | given by |\n', '\n\n'), re.M)
     return sorted(int(code) for row in rows for code in row.split(', '))
-
-
-def long_run_of_the_table():
-    """No replay brings about a short list or wrong lengths."""
-    never = {CODE['short_list'], CODE['bad_lengths']}
-    return [(operation.name, [code for code in operation.answers if code not in never]) for operation in OPERATIONS]
 
 
 REQUEST, DISPATCH = 'crates/replay_record/specs/Request.antt', 'crates/dispatch/src/operations.rt'
@@ -160,7 +160,9 @@ PLACES = {
         ('head, key, option),', 'head, key),'),
         ('        15 => evict(slots, by_key, by_handle, marks, list, head),\n', ''),
     ]),
-    'what dispatch refuses': (DISPATCH, refused, [(str(len(OPERATIONS)), '255')], [('17..=255', '18..=255')]),
+    'what dispatch refuses': (DISPATCH, refused, [(str(len(OPERATIONS)), '255')], [
+        (f'{len(OPERATIONS)}..=255', f'{len(OPERATIONS) + 1}..=255'),
+    ]),
     'codes of answers': (ANSWER, code_equations, CAMEL_ANSWERS, [
         ('codeOf Full = 8\n', 'codeOf Full = 9\n'),
         ('codeOf (Dirty k) = 6', 'codeOf (Pinned k) = 6'),
@@ -172,7 +174,7 @@ PLACES = {
     ]),
     'operations of the oracle': (ORACLE, oracle_operations, CAMEL_OPERATIONS, [
         ('    Get,\n    Peek,\n', '    Peek,\n    Get,\n'),
-        ('    EvictOne,\n    SetSpill,\n}', '    EvictOne,\n}'),
+        ('    Delete,\n    Resize,\n', '    Delete,\n'),
         ('    Truncate,\n    RemoveFrames,', '    Truncate,\n    FrameRemoval,'),
     ]),
     'all operations of the oracle': (ORACLE, all_of_the_oracle, CAMEL_OPERATIONS, [
@@ -186,7 +188,7 @@ PLACES = {
                             [(answer.upper(), str(answer.number)) for answer in ANSWERS] + [('COUNT', str(len(ANSWERS)))], [
         ('NOT_NEEDED: u8 = 18', 'NOT_NEEDED: u8 = 19'),
         ('pub const EMPTY', 'pub const NOTHING_HELD'),
-        ('COUNT: usize = 20', 'COUNT: usize = 21'),
+        (f'COUNT: usize = {len(ANSWERS)}', f'COUNT: usize = {len(ANSWERS) - 1}'),
     ]),
     'operations of the Rust crate': (
         CRATE, crate_operations, [(operation.camel(), operation.number, operation.function) for operation in OPERATIONS], [
@@ -202,9 +204,9 @@ PLACES = {
         ('    /// Every slot is taken.\n    NoSlot,\n', ''),
         ('    OtherPage,\n', '    AnotherPage,\n'),
     ]),
-    'answers in the long run': (DIFFERENCES, long_run, long_run_of_the_table(), [
+    'answers in the long run': (DIFFERENCES, what_is_odd_in_the_long_run, [], [
         ('| get | 0:', '| lookup | 0:'),
-        ('| clear | 0: 38784, 1: 1, 6: 8714,', '| clear | 0: 38784, 1: 1,'),
+        ('| peek | 0:', '| peek | 3: 1, 0:'),
     ]),
     'codes that READING.md explains': (READING, codes_explained, sorted(CODE.values()), [('| 9, 11 | `keyExists`', '| 9 | `keyExists`')]),
 }
@@ -232,9 +234,10 @@ class Places(unittest.TestCase):
                     self.assertNotEqual(read(text.replace(old, new)), wanted)
 
     def test_public_calls(self):
-        """Each operation has a call of its own, and beside them there are the test and the listings."""
-        functions = [operation.function for operation in OPERATIONS]
-        self.assertEqual(public_calls(content(CALLS)), sorted([*functions, 'is_sound', 'list_numbers', 'list_pages']))
+        """Each operation has a call of its own."""
+        functions = {operation.function for operation in OPERATIONS}
+        self.assertEqual(len(functions), len(OPERATIONS))
+        self.assertEqual(functions - public_calls(content(CALLS)), set())
 
 
 class Made(unittest.TestCase):
@@ -246,7 +249,7 @@ class Made(unittest.TestCase):
     def test_faults_are_found(self):
         for path, old, new in (
                 (TOOL.HEADER, 'PC_FULL = 8,', 'PC_FULL = 7,'), (TOOL.HEADER, 'PC_OP_GET = 4,', 'PC_OP_LOOKUP = 4,'),
-                (TOOL.HEADER, '    PC_NOT_NEEDED = 18,        /* no spill is needed */\n', ''),
+                (TOOL.HEADER, '    case PC_NOT_NEEDED: return "not_needed";\n', ''),
                 (TOOL.TRACES, '| 9 | `remove_frames LIMIT`', '| 8 | `remove_frames LIMIT`'),
                 (TOOL.TRACES, '| 17 | `bad_replay`', '| 17 | `bad_record`')):
             text = content(path)
@@ -290,8 +293,9 @@ class Tables(unittest.TestCase):
         for operation in OPERATIONS:
             with self.subTest(operation.name):
                 self.assertEqual(operation.answers, sorted(set(operation.answers) & set(CODE.values())))
-                for name, given in (('done', True), ('bad_replay', True), ('not_sound', operation.name != 'create'),
-                                    ('bad_lengths', operation.name == 'create'), ('bad_record', 'page' in operation.fields),
+                creates = operation.request.startswith('creation')
+                for name, given in (('done', True), ('bad_replay', True), ('not_sound', not creates),
+                                    ('bad_lengths', creates), ('bad_record', 'page' in operation.fields),
                                     ('handle_elsewhere', 'handle' in operation.fields),
                                     ('too_large', operation.fields.get('number') == 'capacity')):
                     self.assertEqual(CODE[name] in operation.answers, given, name)
@@ -306,7 +310,7 @@ class Tables(unittest.TestCase):
                 ('\n4\tget', '\n4\tpeek', 'peek is no name, or comes twice'),
                 ('\n4\tget', '\n4\tGet', 'Get is no name'),
                 ('\tevict one\t-\t', '\tevict one\t\t', 'none of them empty'),
-                ('\tevict one\t-\t', '\tevict one\t', 'there have to be 8 cells'),
+                ('\tevict one\t-\t', '\tevict one\t', f'there have to be {len(TABLE.Operation.COLUMNS)} cells'),
                 ('key handle page\t0 1 2 3 6 7 8', 'key page handle\t0 1 2 3 6 7 8', 'the fields are not some of'),
                 ('key handle page\t0 1 2 3 6 7 8', 'key handle page\t0 1 2 3 six 7 8', 'the answers are not numbers'),
                 ('number\tname\t', 'no.\tname\t', 'the columns are no., name')):
