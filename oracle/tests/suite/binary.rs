@@ -1,4 +1,4 @@
-//! Runs the built program.
+//! Runs the built program, or another one.
 
 use std::io::Write;
 use std::process::{Command, Output, Stdio};
@@ -12,8 +12,12 @@ pub fn run(arguments: &[&str]) -> Output {
 }
 
 pub fn run_with_input(arguments: &[&str], input: &[u8]) -> Output {
-    let mut child = oracle()
-        .args(arguments)
+    output_for(oracle().args(arguments), input)
+}
+
+/// What any program writes for this input.
+pub fn output_for(program: &mut Command, input: &[u8]) -> Output {
+    let mut child = program
         .stdin(Stdio::piped())
         .stdout(Stdio::piped())
         .stderr(Stdio::piped())
