@@ -133,16 +133,16 @@ def what_is_odd_in_the_long_run(text):
 
 
 def codes_explained(text):
-    """Of READING.md: the codes, in order."""
-    rows = re.findall(r'^\| ([0-9, ]+) \|', block(text, '| code | given by |\n', '\n\n'), re.M)
-    return sorted(int(code) for row in rows for code in row.split(', '))
+    """Of RULES.md: the codes, in order."""
+    rows = re.findall(r'^\| ([0-9*, ]+) \|', block(text, '| code | given when | changes | said by |\n', '\n\n'), re.M)
+    return [int(code) for row in rows for code in row.replace('*', '').split(', ')]
 
 
 REQUEST, DISPATCH = 'crates/replay_record/specs/Request.antt', 'crates/dispatch/src/operations.rt'
 ANSWER, CALLS = 'crates/answer/specs/Answer.antt', 'crates/page_cache/src/lib.rt'
 ORACLE, ORACLE_CODES, ORACLE_WORDS = 'oracle/src/record.rs', 'oracle/src/answer.rs', 'oracle/src/compare/words.rs'
 CRATE, CRATE_ERRORS = 'host/rust/src/calls.rs', 'host/rust/src/answer.rs'
-DIFFERENCES, READING = 'docs/DIFFERENCES.md', 'docs/READING.md'
+DIFFERENCES, RULES = 'docs/DIFFERENCES.md', 'docs/RULES.md'
 
 # Of each place: its file, what reads it, what that has to find; and faults, each a text that stands there once and another one.
 PLACES = {
@@ -208,7 +208,7 @@ PLACES = {
         ('| get | 0:', '| lookup | 0:'),
         ('| peek | 0:', '| peek | 3: 1, 0:'),
     ]),
-    'codes that READING.md explains': (READING, codes_explained, sorted(CODE.values()), [('| 9, 11 | `keyExists`', '| 9 | `keyExists`')]),
+    'codes that RULES.md explains': (RULES, codes_explained, sorted(CODE.values()), [('| **5**, **6**, **7** |', '| **5**, **7** |')]),
 }
 
 
