@@ -75,6 +75,7 @@ class Operation(Named):
             raise ValueError(f'{where}: the answers are not numbers with a blank between them')
         self.answers = [int(word) for word in row['answers'].split(' ')]
         self.does, self.request, self.function = row['what it does'], row['request'], row['function']
+        self.in_01 = row['document 01']
         # of a text trace: the field of the number that stands after the name, if there is one; the words for the option;
         # whether one of them has to be there, or none of them means 0
         self.first = next((name for name in ('key', 'number') if name in self.fields), None)

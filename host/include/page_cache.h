@@ -94,7 +94,7 @@ enum pc_code {
                                   is the old one */
     PC_OTHER_PAGE = 11,        /* the key is there with another handle */
     PC_HANDLE_ELSEWHERE = 12,  /* the handle stands under another key */
-    PC_NO_SLOT = 13,           /* every slot is taken */
+    PC_NO_SLOT = 13,           /* insert would answer full, and every slot is taken */
     PC_EMPTY = 14,             /* one page is to be evicted, and none is held */
     PC_TOO_LARGE = 15,         /* the capacity is above the number of slots */
     PC_BAD_LENGTHS = 16,       /* the number of slots or a lent length is wrong (create), or the head's or the answer's length (any

@@ -36,6 +36,7 @@ ARMS = [(operation.number, BELOW_THE_PUBLIC_CALL.get(operation.function, operati
          takes_list(operation)) for operation in OPERATIONS]
 CAMEL_OPERATIONS = [operation.camel() for operation in OPERATIONS]
 CAMEL_ANSWERS = [(answer.camel(), answer.number) for answer in ANSWERS]
+EXPLAINED = [(f'**{answer.number}**', f'`{answer.name}`', answer.when, answer.value, answer.leaves) for answer in ANSWERS]
 VALUES = [(answer.camel(), 'v' if answer.name == 'done' else 'k .0' if answer.gives_key else '0') for answer in ANSWERS]
 
 
@@ -133,9 +134,9 @@ def what_is_odd_in_the_long_run(text):
 
 
 def codes_explained(text):
-    """Of RULES.md: the codes, in order."""
-    rows = re.findall(r'^\| ([0-9*, ]+) \|', block(text, '| code | given when | changes | said by |\n', '\n\n'), re.M)
-    return [int(code) for row in rows for code in row.replace('*', '').split(', ')]
+    """Of RULES.md: all that its table of codes says, but which definitions say it."""
+    rows = block(text, '| code | name | given when | value | what it leaves | said by |\n', '\n\n').splitlines()[1:]
+    return [tuple(row.strip('| ').split(' | ')[:-1]) for row in rows]
 
 
 REQUEST, DISPATCH = 'crates/replay_record/specs/Request.antt', 'crates/dispatch/src/operations.rt'
@@ -208,7 +209,12 @@ PLACES = {
         ('| get | 0:', '| lookup | 0:'),
         ('| peek | 0:', '| peek | 3: 1, 0:'),
     ]),
-    'codes that RULES.md explains': (RULES, codes_explained, sorted(CODE.values()), [('| **5**, **6**, **7** |', '| **5**, **7** |')]),
+    'codes that RULES.md explains': (RULES, codes_explained, EXPLAINED, [
+        ('| **9** |', '| **19** |'),
+        ('| `empty` |', '| `nothing_held` |'),
+        ('| a page that has to go is pinned | its key |', '| a page that has to go is pinned | 0 |'),
+        ('| the page was touched |', '| unchanged |'),
+    ]),
 }
 
 
@@ -251,7 +257,8 @@ class Made(unittest.TestCase):
                 (TOOL.HEADER, 'PC_FULL = 8,', 'PC_FULL = 7,'), (TOOL.HEADER, 'PC_OP_GET = 4,', 'PC_OP_LOOKUP = 4,'),
                 (TOOL.HEADER, '    case PC_NOT_NEEDED: return "not_needed";\n', ''),
                 (TOOL.TRACES, '| 9 | `remove_frames LIMIT`', '| 8 | `remove_frames LIMIT`'),
-                (TOOL.TRACES, '| 17 | `bad_replay`', '| 17 | `bad_record`')):
+                (TOOL.TRACES, '| 17 | `bad_replay`', '| 17 | `bad_record`'),
+                (TOOL.RULES, '| 9 | `remove_frames` | frame removal |', '| 9 | `remove_frames` | truncation |')):
             text = content(path)
             self.assertEqual(text.count(old), 1, old)
             self.assertEqual(TOOL.made(text, TOOL.PARTS[path]), text)
