@@ -1,7 +1,7 @@
 // An answer as numbers.
 use answer::Answered;
-use codes::code_of;
-use codes::value_of;
+use answer::code_of;
+use answer::value_of;
 use listing::Listing;
 use page::PageCache;
 ghost use mathlib.Core.Path.{_≡_};

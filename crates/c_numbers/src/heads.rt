@@ -1,6 +1,6 @@
 // The head of a cache as five numbers of 64 bits: capacity, held, hand, spill switch, estimate.
 use answer::Answered;
-use codes::code_of;
+use answer::code_of;
 use creating::Created;
 use page::PageCache;
 use page::Slot;

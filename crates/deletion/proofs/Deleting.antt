@@ -27,7 +27,7 @@ use Rattle.answer.specs.declared.answer.Answer.the-variants.{Done, ShortList}
 use Rattle.answer.specs.declared.answered.Answered.{Answered}
 use Rattle.answer.proofs.Steps.{step-acts, step-short-list, list-short, list-long, comes-as, wrote-none, wrote-next, plain-follows, plain-comes, listing-follows, deleting-done, deleting-refused}
 use Rattle.moves.specs.Moves.{StandsAt, KeyAt, Removes}
-use Rattle.removing.proofs.Removal.{some-held}
+use Rattle.moves.proofs.Removal.{some-held}
 use Rattle.deletion.specs.Deletion.{CanDelete, Goes, Stays}
 
 -- a reason has another number than `Yes`, which is 0

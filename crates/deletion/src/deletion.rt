@@ -46,7 +46,7 @@ pub fn delete_page(
         return Deletion::Refused(Answer::refusal(e.key, why));
     };
     list[listed] = e.handle.0;
-    let left = removing::remove_at_slot(slots, by_key, by_handle, marks, head, s);
+    let left = moves::remove_at_slot(slots, by_key, by_handle, marks, head, s);
     Deletion::Deleted(left)
 }
 

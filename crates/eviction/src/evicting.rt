@@ -41,7 +41,7 @@ pub fn evict_one(
     let handle = pool::load(slots, at).handle;
     let mut turned = head;
     turned.hand = at;
-    let left = removing::remove_at_slot(slots, by_key, by_handle, marks, turned, at);
+    let left = moves::remove_at_slot(slots, by_key, by_handle, marks, turned, at);
     Eviction::Took {
         handle,
         passed,

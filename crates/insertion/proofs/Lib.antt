@@ -1,1 +1,6 @@
+mod Admission
+mod Presents
+pub mod Names
+mod Renewal
+mod Keys
 mod Tests

@@ -21,10 +21,10 @@ use Rattle.answer.specs.declared.answer.Answer.the-variants.{BadRecord, ShortLi
 use Rattle.answer.specs.declared.answered.Answered.{Answered}
 use Rattle.answer.proofs.Steps.{step-acts, step-bad-record, step-short-list, step-elsewhere, list-short, list-long, comes-as, plain-comes}
 use Rattle.moves.specs.Moves.{TestsHandle}
-use Rattle.request.specs.declared.form.Request.{Request}
-use Rattle.request.specs.Form.{insertionOf}
-use Rattle.renewal.specs.Renew.{Free}
-use Rattle.under_key.specs.Insert.{Insertable, Inserts}
+use Rattle.insertion.specs.declared.form.Request.{Request}
+use Rattle.insertion.specs.Form.{insertionOf}
+use Rattle.insertion.specs.Renew.{Free}
+use Rattle.insertion.specs.Insert.{Insertable, Inserts}
 
 -- the call that is asked for
 abbrev asking : Request → List ℕ → Call

@@ -1,13 +1,13 @@
 // The three insertions: the tests that come before the rules, in their order, and then the rules.
+use crate::by_key::insert_by_key;
+use crate::form::Insertion;
+use crate::form::Request;
 use answer::Answer;
 use answer::Answered;
 use page::PageCache;
 use page::PageCacheKey;
 use page::PageHandle;
 use page::PageRecord;
-use request::Insertion;
-use request::Request;
-use under_key::insert_by_key;
 ghost use lib.ListN.{length};
 ghost use Rattle.model.specs.Cache.{Cache};
 ghost use Rattle.model.specs.Call.{insert, plain, forced, upsert};
@@ -15,7 +15,7 @@ ghost use Rattle.model.specs.Step.{step};
 ghost use Rattle.memory.specs.Memory.{memory, memories};
 ghost use Rattle.memory.specs.Holds.{Holds, Sound};
 ghost use Rattle.answer.specs.Answer.{Comes};
-ghost use Rattle.request.specs.Form.{insertionOf};
+ghost use Rattle.insertion.specs.Form.{insertionOf};
 
 // Inserts a page, if its key is absent and there is room or room can be made.
 pub fn insert(

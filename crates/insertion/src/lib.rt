@@ -7,9 +7,21 @@
 //     there, same handle   touched, KeyExists        the same                  touched and replaced in place
 //     there, another one   OtherPage                 the same                  touched and replaced in place
 //
+//     calls.rt     the three calls, with their tests
+//     by_key.rt    what stands under the key decides
+//     absent.rt    under an absent key (rules 5 and 7)
+//     stale.rt     under the key of a page that is neither loaded nor locked, which is deleted first (rule 6)
+//     present.rt   under the key of any other page (rule 6)
+//     form.rt      what an insertion is asked for, and what its form decides
+//
 // The three calls ask for sound memory and leave it sound. Callers may rely on each being the model's step: its answer, the
 // pages passed, the handles listed and the cache that the memory holds afterwards.
+mod absent;
+mod by_key;
 mod calls;
+mod form;
+mod present;
+mod stale;
 
 pub use calls::force_insert_page;
 pub use calls::force_upsert_page;

@@ -12,7 +12,7 @@ ghost use Rattle.model.specs.Step.{step};
 ghost use Rattle.memory.specs.Memory.{memory, memories};
 ghost use Rattle.memory.specs.Holds.{Holds, Sound};
 ghost use Rattle.answer.specs.Answer.{Comes};
-ghost use Rattle.parts.specs.Parts.{SoundParts, FollowsStep};
+ghost use Rattle.answer.specs.Parts.{SoundParts, FollowsStep};
 
 // The handle of the page under the key, which is touched. A read that was given up leaves a page neither loaded nor locked:
 // such a page is deleted, and counts as absent, so that no caller is handed it.
@@ -47,7 +47,7 @@ pub fn get(
             Answer::Absent,
         );
     }
-    changing::touch_at(slots, s);
+    moves::touch_at(slots, s);
     Answered::plain(Answer::Done(e.handle.0), head)
 }
 
@@ -70,6 +70,6 @@ pub fn peek(
     if !touch {
         return found;
     }
-    changing::touch_at(slots, at);
+    moves::touch_at(slots, at);
     found
 }

@@ -1,17 +1,17 @@
-// What the moves of a cache share. A move is a small change of sound memory that takes a cache of the model to the one that the
-// model's word for it gives:
+// The moves of a cache. A move is a small change of sound memory that takes a cache of the model to the one that the model's word
+// for it gives:
 //
-//     crate placing    place              enter           a new page comes
-//     crate removing   remove_at_slot     leave           a page goes
-//     crate changing   touch_at           touch           one touch
-//                      rewrite_at         rewrite         another record
-//                      replace_at         replace         another handle and another record
+//     placing.rt    place              enter        a new page comes
+//     removing.rt   remove_at_slot     leave        a page goes
+//     changing.rt   touch_at           touch        one touch
+//                   rewrite_at         rewrite      another record
+//                   replace_at         replace      another handle and another record
 //
-// Here are what they ask of the memory and make of it (specs/), the search that comes before them, and the estimate's rule:
+// Before them comes a search, and those that change the head follow the estimate's rule:
 //
-//     finding.rt    seat_of            find            where a key stands
-//                   handle_elsewhere   underOther      whether a handle stands under another key
-//     estimate.rt   the estimate's rule, which those that change the head follow
+//     finding.rt    seat_of            find         where a key stands
+//                   handle_elsewhere   underOther   whether a handle stands under another key
+//     estimate.rt   the estimate's rule
 //
 // Callers may rely on this: if the memory holds a cache before the move, it holds the changed cache after it, with the head
 // that comes back. No move searches for the page that it changes: it is told the slot, and the caller has found the page
@@ -20,9 +20,15 @@
 //
 // No move tests anything that a rule asks. Whether the page may be deleted, whether there is room, whether the handle is
 // free: the calls have asked before.
+mod changing;
 mod estimate;
 mod finding;
+mod placing;
+mod removing;
 
+pub use changing::replace_at;
+pub use changing::rewrite_at;
+pub use changing::touch_at;
 pub use estimate::count_down;
 pub use estimate::count_in;
 pub use estimate::count_out;
@@ -31,3 +37,5 @@ pub use estimate::count_up;
 pub use finding::Seat;
 pub use finding::handle_elsewhere;
 pub use finding::seat_of;
+pub use placing::place;
+pub use removing::remove_at_slot;

@@ -10,7 +10,7 @@ ghost use Rattle.order.specs.Index.{Index};
 ghost use Rattle.order.specs.Names.{names};
 ghost use Rattle.order.specs.declared.search.By.the-variants.{Key};
 ghost use Rattle.model.specs.Call.{notify-dirty, notify-spilled};
-ghost use Rattle.parts.specs.Parts.{SoundParts, FollowsStep};
+ghost use Rattle.answer.specs.Parts.{SoundParts, FollowsStep};
 ghost use Rattle.notices.specs.Notice.{Notices};
 
 // A page became dirty, so that it may not go: 1 less.

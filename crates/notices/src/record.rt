@@ -6,7 +6,7 @@ use page::PageCache;
 use page::PageCacheKey;
 use page::PageRecord;
 ghost use Rattle.model.specs.Call.{write};
-ghost use Rattle.parts.specs.Parts.{SoundParts, FollowsStep};
+ghost use Rattle.answer.specs.Parts.{SoundParts, FollowsStep};
 
 // The page under the key has this record from now on.
 pub fn write_record(
@@ -25,6 +25,6 @@ pub fn write_record(
     let Seat::At(s) = moves::seat_of(by_key, slots, head.held, key) else {
         return Answered::plain(Answer::Absent, head);
     };
-    changing::rewrite_at(slots, s, page);
+    moves::rewrite_at(slots, s, page);
     Answered::plain(Answer::Done(0), head)
 }

@@ -34,8 +34,8 @@ fn put_numbers(out: &mut [u8; ROOM], at: usize, answered: Answered) -> usize
 {
     let head = answered.head;
     let answer = answered.answer;
-    let code = put_number(out, at, codes::code_of(answer) as u64);
-    let value = put_next(out, code, b' ', codes::value_of(answer) as u64);
+    let code = put_number(out, at, answer::code_of(answer) as u64);
+    let value = put_next(out, code, b' ', answer::value_of(answer) as u64);
     let passed = put_next(out, value, b' ', answered.passed);
     put_next(out, passed, b' ', head.held as u64)
 }

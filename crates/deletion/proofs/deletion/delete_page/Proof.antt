@@ -4,7 +4,7 @@ use mathlib.Core.Logic.{_≢_}
 use native.Mathlib.Omega.{arith}
 use borrow.Author.Needs.{needs}
 use Rattle.page.specs.declared.record.Deletable.the-variants.{Yes}
-use Rattle.removing.proofs.Removal.{slot-inside}
+use Rattle.moves.proofs.Removal.{slot-inside}
 use Rattle.deletion.proofs.Deleting.{some-reason, page-goes, page-stays}
 use Rattle.deletion.proofs.deletion.delete_page.Statement.{statement}
 use Rattle.deletion.proofs.deletion.delete_page.Tie as tie

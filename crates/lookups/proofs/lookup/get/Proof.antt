@@ -10,7 +10,7 @@ use Rattle.memory.specs.Holds.{Holds}
 use Rattle.memory.proofs.Standing.{holds-by-key}
 use Rattle.answer.proofs.Steps.{comes-told}
 use Rattle.moves.specs.Moves.{KeyAt}
-use Rattle.removing.proofs.Removal.{slot-inside}
+use Rattle.moves.proofs.Removal.{slot-inside}
 use Rattle.deletion.proofs.Deleting.{can-delete}
 use Rattle.lookups.proofs.Calls.{lookup-short, lookup-absent, lookup-stale, lookup-hit}
 use Rattle.lookups.proofs.lookup.get.Statement.{statement}

@@ -12,7 +12,7 @@ use Rattle.memory.specs.Holds.{Holds}
 use Rattle.memory.proofs.Standing.{holds-by-key}
 use Rattle.answer.proofs.Steps.{follows-told}
 use Rattle.moves.specs.Moves.{memoryOf, KeyAt}
-use Rattle.removing.proofs.Removal.{slot-inside}
+use Rattle.moves.proofs.Removal.{slot-inside}
 use Rattle.lookups.proofs.Calls.{peek-absent, peek-seen, peek-touched}
 use Rattle.lookups.proofs.lookup.peek.Statement.{statement}
 use Rattle.lookups.proofs.lookup.peek.Tie as tie

@@ -11,7 +11,7 @@ use Rattle.memory.specs.Holds.{Holds}
 use Rattle.memory.proofs.Standing.{holds-by-key}
 use Rattle.answer.proofs.Steps.{follows-told}
 use Rattle.moves.specs.Moves.{memoryOf, KeyAt}
-use Rattle.removing.proofs.Removal.{slot-inside}
+use Rattle.moves.proofs.Removal.{slot-inside}
 use Rattle.notices.proofs.Writing.{write-bad, write-absent, write-there}
 use Rattle.notices.proofs.record.write_record.Statement.{statement}
 use Rattle.notices.proofs.record.write_record.Tie as tie

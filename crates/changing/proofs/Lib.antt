@@ -1,3 +1,0 @@
-pub mod Change
-pub mod Relisting
-pub mod Replacement

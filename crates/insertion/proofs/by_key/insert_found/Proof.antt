@@ -1,0 +1,72 @@
+-- The record that is loaded is the page's, and it is stale or not. Assumes nothing.
+use borrow.Author.Needs.{needs}
+use Rattle.insertion.proofs.Keys.{found-inside, found-replaceable, found-stale, found-present}
+use Rattle.insertion.proofs.by_key.insert_found.Statement.{statement}
+use Rattle.insertion.proofs.by_key.insert_found.Tie as tie
+
+load-requires : tie.Need-load-requires
+load-requires c κs = found-inside (c .before .before .before .before .before .before .pre)
+
+is-stale-requires : tie.Need-is-stale-requires
+is-stale-requires c κs = search needs
+
+insert-stale-requires : tie.Need-insert-stale-requires
+insert-stale-requires c κs = (c .before .before .before .before .before .before .before .before .before .before .before .before .before .before .before .pre)
+
+same-length : tie.Need-same-length
+same-length c = search needs
+
+same-length-2 : tie.Need-same-length-2
+same-length-2 c = search needs
+
+same-length-3 : tie.Need-same-length-3
+same-length-3 c = search needs
+
+same-length-4 : tie.Need-same-length-4
+same-length-4 c = search needs
+
+same-length-5 : tie.Need-same-length-5
+same-length-5 c = search needs
+
+returns : tie.Need-returns
+returns c =
+    let at-insert-stale = c .before .before .before .before .before .before .before .before .before .before in
+    let at-if1 = at-insert-stale .before .before .before .before .before .before in
+    let at-is-stale = at-if1 .before in
+    let at-load = at-is-stale .before .before in
+    found-stale (at-load .load .ensures) (at-is-stale .is-stale .ensures) (at-if1 .if1 .taken) (at-insert-stale .insert-stale .ensures)
+
+present-requires : tie.Need-present-requires
+present-requires c κs = found-replaceable (c .before .before .before .before .before .before .before .before .before .before .before .before .pre)
+
+same-length-6 : tie.Need-same-length-6
+same-length-6 c = search needs
+
+same-length-7 : tie.Need-same-length-7
+same-length-7 c = search needs
+
+returns-2 : tie.Need-returns-2
+returns-2 c =
+    let at-present = c .before .before .before .before in
+    let at-if1 = at-present .before .before .before in
+    let at-is-stale = at-if1 .before in
+    let at-load = at-is-stale .before .before in
+    found-present (at-load .load .ensures) (at-is-stale .is-stale .ensures) (at-if1 .if1 .left) (at-present .present .ensures)
+
+pub insert-found-spec : {M : Type 1} → statement M
+insert-found-spec =
+    tie.close
+    (tie.spec
+    load-requires
+    is-stale-requires
+    insert-stale-requires
+    same-length
+    same-length-2
+    same-length-3
+    same-length-4
+    same-length-5
+    returns
+    present-requires
+    same-length-6
+    same-length-7
+    returns-2)

@@ -1,0 +1,91 @@
+-- What the form decides, and then the two handles. Assumes nothing.
+use borrow.Author.Needs.{needs}
+use mathlib.Core.Path.{sym, _∙_}
+use Rattle.insertion.proofs.Presents.{present-inside, touched-replaceable, presents-replaced, presents-other, presents-same}
+use Rattle.insertion.proofs.present.present.Statement.{statement}
+use Rattle.insertion.proofs.present.present.Tie as tie
+
+load-requires : tie.Need-load-requires
+load-requires c κs = present-inside (c .before .before .before .pre)
+
+replaces-requires : tie.Need-replaces-requires
+replaces-requires c κs = search needs
+
+touch-at-requires : tie.Need-touch-at-requires
+touch-at-requires c κs = present-inside (c .before .before .before .before .before .before .before .before .pre)
+
+replace-at-requires : tie.Need-replace-at-requires
+replace-at-requires c κs =
+    let at-touch-at = c .before .before .before .before in
+    let start = at-touch-at .before .before .before .before .before .before .before .before .before in
+    touched-replaceable (start .pre) (at-touch-at .touch-at .ensures)
+
+plain-requires : tie.Need-plain-requires
+plain-requires c κs = search needs
+
+same-length : tie.Need-same-length
+same-length c = search needs
+
+same-length-2 : tie.Need-same-length-2
+same-length-2 c = search needs
+
+returns : tie.Need-returns
+returns c =
+    let at-replace-at = c .before .before .before .before .before in
+    let at-touch-at = at-replace-at .before .before .before .before .before in
+    let at-if1 = at-touch-at .before .before in
+    let at-replaces = at-if1 .before in
+    let at-load = at-replaces .before .before in
+    rw (c .plain .ensures) (presents-replaced (at-load .load .ensures) (sym (at-replaces .replaces .ensures) ∙ at-if1 .if1 .taken) (at-touch-at .touch-at .ensures) (at-replace-at .replace-at .ensures))
+
+plain-requires-2 : tie.Need-plain-requires-2
+plain-requires-2 c κs = search needs
+
+same-length-3 : tie.Need-same-length-3
+same-length-3 c = search needs
+
+returns-2 : tie.Need-returns-2
+returns-2 c =
+    let at-if2 = c .before in
+    let at-if1 = at-if2 .before .before .before in
+    let at-replaces = at-if1 .before in
+    let at-load = at-replaces .before .before in
+    rw (c .plain2 .ensures) (presents-other (at-load .load .ensures) (sym (at-replaces .replaces .ensures) ∙ at-if1 .if1 .left) (at-if2 .if2 .taken))
+
+touch-at-requires-2 : tie.Need-touch-at-requires-2
+touch-at-requires-2 c κs = present-inside (c .before .before .before .before .before .before .before .before .before .before .before .pre)
+
+plain-requires-3 : tie.Need-plain-requires-3
+plain-requires-3 c κs = search needs
+
+same-length-4 : tie.Need-same-length-4
+same-length-4 c = search needs
+
+returns-3 : tie.Need-returns-3
+returns-3 c =
+    let at-touch-at2 = c .before .before .before in
+    let at-if2 = at-touch-at2 .before .before in
+    let at-if1 = at-if2 .before .before .before in
+    let at-replaces = at-if1 .before in
+    let at-load = at-replaces .before .before in
+    rw (c .plain3 .ensures) (presents-same (at-load .load .ensures) (sym (at-replaces .replaces .ensures) ∙ at-if1 .if1 .left) (at-if2 .if2 .left) (at-touch-at2 .touch-at2 .ensures))
+
+pub present-spec : {M : Type 1} → statement M
+present-spec =
+    tie.close
+    (tie.spec
+    load-requires
+    replaces-requires
+    touch-at-requires
+    replace-at-requires
+    plain-requires
+    same-length
+    same-length-2
+    returns
+    plain-requires-2
+    same-length-3
+    returns-2
+    touch-at-requires-2
+    plain-requires-3
+    same-length-4
+    returns-3)

@@ -1,0 +1,43 @@
+-- What the admission of a page asks of the memory and what it comes to: the model's rules 5 and 7, of every cache that the
+-- memory holds. Assumes nothing.
+use mathlib.Core.Path.{_≡_}
+use mathlib.Core.List.{List}
+use Prim.Native.Nat.{ℕ, _+_, _≤_}
+use lib.ListN.{length}
+use Rattle.page.specs.Cache.{maxSlots}
+use Rattle.page.specs.declared.cache.PageCache.{PageCache}
+use Rattle.model.specs.Cache.{Cache}
+use Rattle.model.specs.Call.{Outcome, listing}
+use Rattle.model.specs.Limits.{Kept}
+use Rattle.model.specs.Rules.{admit}
+use Rattle.memory.specs.Memory.{Memory}
+use Rattle.memory.specs.Holds.{Holds}
+use Rattle.answer.specs.Answer.{Wrote, Comes}
+use Rattle.answer.specs.declared.answered.Answered.{Answered}
+use Rattle.moves.specs.Moves.{NewNames}
+use Rattle.insertion.specs.declared.form.Request.{Request}
+use Rattle.insertion.specs.Form.{insertionOf}
+
+-- the key and the handle are new to the cache
+abbrev pub New : Request → Cache → Type 0
+New asked c = NewNames (asked .key .0) (asked .handle .0) (c .row)
+
+-- the key is absent: the model's rule
+abbrev pub admitting : Request → Cache → Outcome
+admitting asked = admit (asked .key .0) (asked .handle .0) (asked .page) (insertionOf (asked .form))
+
+-- the memory holds a cache within its limits, to which the key and the handle are new; the record is good; so many handles
+-- are listed, and the list has a place more for every page that is held
+pub record Admissible (m : Memory) (head : PageCache) (list : List ℕ) (listed : ℕ) (asked : Request) : Type 0 where
+  pub cache : Cache
+  pub holds : Holds m head cache
+  pub kept : Kept cache
+  pub new : New asked cache
+  pub flags : asked .page .flags ≤ 31
+  pub places : listed + head .held ≤ length list
+  pub few : listed + head .held ≤ maxSlots
+
+-- the page is admitted as the model says, and what is evicted is listed after the handles that went before
+pub record Admits (m : Memory) (head : PageCache) (list : List ℕ) (listed : ℕ) (asked : Request) (m′ : Memory) (list′ : List ℕ) (r : Answered) : Type 0 where
+  pub comes : (c : Cache) (gone before : List ℕ) → Holds m head c → Kept c → New asked c → Wrote gone before list → length gone ≡ listed
+      → Comes (listing gone (admitting asked c)) before m′ list′ r

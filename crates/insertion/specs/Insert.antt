@@ -1,0 +1,41 @@
+-- What the insertions ask of the memory and what they come to: the model's rules, of every cache that the memory holds.
+-- Assumes nothing.
+use mathlib.Core.List.{List}
+use mathlib.Core.Option.{some}
+use Prim.Native.Nat.{ℕ, _≤_}
+use lib.ListN.{length}
+use Rattle.page.specs.declared.cache.PageCache.{PageCache}
+use Rattle.model.specs.Cache.{Cache}
+use Rattle.model.specs.Limits.{Kept}
+use Rattle.model.specs.Row.{Entry}
+use Rattle.model.specs.Rules.{insertFound, onInsert}
+use Rattle.memory.specs.Memory.{Memory}
+use Rattle.memory.specs.Holds.{Holds}
+use Rattle.answer.specs.Answer.{Comes}
+use Rattle.answer.specs.declared.answered.Answered.{Answered}
+use Rattle.moves.specs.Moves.{StandsAt}
+use Rattle.insertion.specs.declared.form.Request.{Request}
+use Rattle.insertion.specs.Form.{insertionOf}
+use Rattle.insertion.specs.Renew.{Free}
+
+-- ── the key is there ─────────────────────────────────────────────────────────
+-- rule 6 on the key's page
+pub record InsertsFound (m : Memory) (head : PageCache) (list : List ℕ) (s : ℕ) (asked : Request) (m′ : Memory) (list′ : List ℕ) (r : Answered) : Type 0 where
+  pub comes : (c : Cache) (e : Entry) → Holds m head c → Kept c → StandsAt (c .row) (asked .key .0) s e → Free asked c
+      → Comes (insertFound (asked .key .0) (asked .handle .0) (asked .page) (insertionOf (asked .form)) (some e) c) list m′ list′ r
+
+-- ── by the key ───────────────────────────────────────────────────────────────
+-- the memory holds a cache within its limits, in which the handle stands under no other key; the record is good, and the
+-- list is as long as held
+pub record Insertable (m : Memory) (head : PageCache) (list : List ℕ) (asked : Request) : Type 0 where
+  pub cache : Cache
+  pub holds : Holds m head cache
+  pub kept : Kept cache
+  pub free : Free asked cache
+  pub flags : asked .page .flags ≤ 31
+  pub long : head .held ≤ length list
+
+-- rules 5, 6 and 7
+pub record Inserts (m : Memory) (head : PageCache) (list : List ℕ) (asked : Request) (m′ : Memory) (list′ : List ℕ) (r : Answered) : Type 0 where
+  pub comes : (c : Cache) → Holds m head c → Kept c → Free asked c
+      → Comes (onInsert (asked .key .0) (asked .handle .0) (asked .page) (insertionOf (asked .form)) c) list m′ list′ r

@@ -1,0 +1,41 @@
+-- What an insertion asks of the memory where the key is there, and what it comes to if the key's page is stale: the model's
+-- rule 6, of every cache that the memory holds. Assumes nothing.
+use mathlib.Core.Path.{_≡_}
+use mathlib.Core.Bool.{false}
+use mathlib.Core.List.{List}
+use Prim.Native.Nat.{ℕ, _≤_}
+use lib.ListN.{length}
+use Rattle.page.specs.declared.cache.PageCache.{PageCache}
+use Rattle.model.specs.Cache.{Cache}
+use Rattle.model.specs.Limits.{Kept}
+use Rattle.model.specs.Row.{Entry}
+use Rattle.model.specs.Rules.{deleting}
+use Rattle.model.specs.Tests.{underOther}
+use Rattle.memory.specs.Memory.{Memory}
+use Rattle.memory.specs.Holds.{Holds}
+use Rattle.answer.specs.Answer.{Comes}
+use Rattle.answer.specs.declared.answered.Answered.{Answered}
+use Rattle.moves.specs.Moves.{StandsAt}
+use Rattle.insertion.specs.declared.form.Request.{Request}
+use Rattle.insertion.specs.Admit.{admitting}
+
+-- the handle stands under no other key
+abbrev pub Free : Request → Cache → Type 0
+Free asked c = underOther (asked .key .0) (asked .handle .0) (c .row) ≡ false
+
+-- the memory holds a cache within its limits that has the key's page at slot s; the handle stands under no other key; the
+-- record is good, and the list is as long as held
+pub record Found (m : Memory) (head : PageCache) (list : List ℕ) (s : ℕ) (asked : Request) : Type 0 where
+  pub cache : Cache
+  pub entry : Entry
+  pub holds : Holds m head cache
+  pub kept : Kept cache
+  pub stands : StandsAt (cache .row) (asked .key .0) s entry
+  pub free : Free asked cache
+  pub flags : asked .page .flags ≤ 31
+  pub long : head .held ≤ length list
+
+-- the page is deleted, and then as absent
+pub record InsertsStale (m : Memory) (head : PageCache) (list : List ℕ) (s : ℕ) (asked : Request) (m′ : Memory) (list′ : List ℕ) (r : Answered) : Type 0 where
+  pub comes : (c : Cache) (e : Entry) → Holds m head c → Kept c → StandsAt (c .row) (asked .key .0) s e → Free asked c
+      → Comes (deleting (e .page) (admitting asked) c) list m′ list′ r

@@ -1,0 +1,59 @@
+// The key is absent: room is made for the page, and it is placed (rules 5 and 7).
+//
+//     plain             room is made, or Full
+//     forced, upsert    room is made, or a free slot is taken over the capacity, or NoSlot
+//
+// The memory has to hold a cache to which the key and the handle are new, and the list has to have a place for every page that is
+// held. Callers may rely on `admit` being the model's rule: its answer, the pages passed, the evicted handles, listed after those
+// that stood in the list before, and the cache that the memory holds afterwards. Evictions stand on Full.
+use crate::form::Request;
+use answer::Answer;
+use answer::Answered;
+use page::PageCache;
+ghost use Rattle.memory.specs.Memory.{memory, memories};
+ghost use Rattle.insertion.specs.Admit.{Admissible, Admits};
+
+// The list has `listed` handles already, and those of the pages that are evicted follow them.
+pub fn admit(
+    slots: &mut [u64],
+    by_key: &mut [u32],
+    by_handle: &mut [u32],
+    marks: &mut [u64],
+    list: &mut [u32],
+    listed: usize,
+    head: PageCache,
+    asked: Request,
+) -> Answered
+    requires { ⌜ Admissible (memory slots «by_key» «by_handle» marks) head (now list) listed asked ⌝ }
+    ensures { λ r. let m = memories slots «by_key» «by_handle» marks in ⌜ Admits (m .entry) head (now (list .entry)) listed asked (m .exit) (now (list .exit)) r ⌝ }
+{
+    let room = eviction::make_room_for(slots, by_key, by_handle, marks, list, listed, head);
+    let left = room.head;
+    let passed = room.passed;
+    let count = room.listed as u32;
+    let form = asked.form;
+    if room.full & !form.goes_in(left.held, by_key.len()) {
+        return Answered {
+            answer: form.turned_away(),
+            passed,
+            listed: count,
+            head: left,
+        };
+    }
+    let after = moves::place(
+        slots,
+        by_key,
+        by_handle,
+        marks,
+        left,
+        asked.key,
+        asked.handle,
+        asked.page,
+    );
+    Answered {
+        answer: Answer::Done(0),
+        passed,
+        listed: count,
+        head: after,
+    }
+}

@@ -1,0 +1,66 @@
+// What an insertion is asked for: Request, the page with its key, its handle and its record; and Insertion, in which of the three
+// forms.
+//
+// The form alone decides three things of rules 6 and 7, and callers may rely on its functions for each: whether a page that is there
+// is replaced, whether a page for which no room was made goes in all the same, and what is answered if not.
+use answer::Answer;
+use page::PageCacheKey;
+use page::PageHandle;
+use page::PageRecord;
+ghost use mathlib.Core.Path.{_≡_};
+ghost use Rattle.insertion.specs.Form.{replaces, goesIn, turnedAway};
+
+pub struct Request {
+    // The page comes under this key,
+    pub key: PageCacheKey,
+    // with this handle
+    pub handle: PageHandle,
+    // and this record.
+    pub page: PageRecord,
+    pub form: Insertion,
+}
+
+pub enum Insertion {
+    // The page goes in only if there is room or room can be made.
+    Plain,
+    // If there is none, the page goes in over the capacity, as long as a slot is free.
+    Forced,
+    // The same, and a page that stands under the key is replaced.
+    Upsert,
+}
+
+impl Insertion {
+    // Whether a page that is there gives way to the new one.
+    pub fn replaces(self) -> bool
+        ensures { λ r. ⌜ r ≡ replaces self ⌝ }
+    {
+        match self {
+            Insertion::Plain => false,
+            Insertion::Forced => false,
+            Insertion::Upsert => true,
+        }
+    }
+
+    // Whether a page for which no room was made takes a free slot, if `held` of `size` slots are taken.
+    pub fn goes_in(self, held: u32, size: usize) -> bool
+        ensures { λ r. ⌜ r ≡ goesIn self held size ⌝ }
+    {
+        let free = (held as usize) < size;
+        match self {
+            Insertion::Plain => false,
+            Insertion::Forced => free,
+            Insertion::Upsert => free,
+        }
+    }
+
+    // The answer to a page that does not go in.
+    pub fn turned_away(self) -> Answer
+        ensures { λ r. ⌜ r ≡ turnedAway self ⌝ }
+    {
+        match self {
+            Insertion::Plain => Answer::Full,
+            Insertion::Forced => Answer::NoSlot,
+            Insertion::Upsert => Answer::NoSlot,
+        }
+    }
+}

@@ -1,0 +1,20 @@
+-- Each return rewrites by the tests that led to it. Assumes nothing.
+use borrow.Author.Tests.{eq-eqb, ne-eqb}
+use borrow.Author.Needs.{needs}
+use Rattle.moves.proofs.removing.head_without.Statement.{statement}
+use Rattle.moves.proofs.removing.head_without.Tie as tie
+
+sub-left : tie.Need-sub-left
+sub-left c = search needs
+
+returns : tie.Need-returns
+returns c = rw (eq-eqb (c .before .before .before .args .head .held) 1 (c .if1 .taken))
+
+returns-2 : tie.Need-returns-2
+returns-2 c = rw (ne-eqb (c .before .before .before .before .before .before .args .head .held) 1 (c .before .before .before .if1 .left), eq-eqb (c .before .before .before .before .before .before .args .head .hand .0) (c .before .before .before .before .before .before .args .s .0) (c .if2 .taken))
+
+returns-3 : tie.Need-returns-3
+returns-3 c = rw (ne-eqb (c .before .before .before .before .before .before .args .head .held) 1 (c .before .before .before .if1 .left), ne-eqb (c .before .before .before .before .before .before .args .head .hand .0) (c .before .before .before .before .before .before .args .s .0) (c .if2 .left))
+
+pub head-without-spec : {M : Type 1} → statement M
+head-without-spec = tie.close (tie.spec sub-left returns returns-2 returns-3)
