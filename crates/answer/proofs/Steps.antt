@@ -1,6 +1,6 @@
 -- From the rules to the calls. A call that passes its tests does what its rule says, and one that fails a test answers that
 -- test's code with nothing changed. A rule is put together from blocks, and each block only adds to what was answered and
--- listed: so a call that came to the rest of a rule came to the whole. Assumes nothing.
+-- listed: so a call that came to the rest of a rule came to the whole.
 use mathlib.Core.Path.{_≡_, refl, sym, ap, _∙_, subst}
 use mathlib.Core.Bool.{true, false}
 use mathlib.Core.List.{List, [], _∷_, _++_, append-assoc}

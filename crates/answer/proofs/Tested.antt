@@ -1,5 +1,5 @@
 -- The calls that are tested for the length of their list alone: a list that is too short is refused, and otherwise the rule
--- follows. Assumes nothing.
+-- follows.
 use mathlib.Core.Path.{_≡_, ap, _∙_}
 use mathlib.Core.List.{List}
 use mathlib.Core.Option.{none, some}

@@ -1,4 +1,4 @@
--- 01's number and value for each answer, and what it means that a call came to an outcome of the model. Assumes nothing.
+-- 01's number and value for each answer, and what it means that a call came to an outcome of the model.
 use mathlib.Core.Path.{_≡_}
 use mathlib.Core.List.{List, _++_}
 use Prim.Native.Nat.{ℕ, _≤_}

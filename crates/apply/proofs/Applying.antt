@@ -1,5 +1,5 @@
 -- What is decoded and tested decides which case of the contract is met. A test that fails is one of a call, since nothing else
--- asks for sound memory. Assumes nothing.
+-- asks for sound memory.
 use mathlib.Core.Bool.{Bool, true, false, not, _||_, true≢false}
 use mathlib.Core.List.{List, [], _∷_}
 use mathlib.Core.Path.{_≡_, refl, sym, ap, subst, _∙_}

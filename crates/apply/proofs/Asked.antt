@@ -1,5 +1,4 @@
 -- What a replay record did, by what its bytes asked for: so everything that is proved of the public calls is proved of records.
--- Assumes nothing.
 use mathlib.Core.List.{List}
 use mathlib.Core.Path.{_≡_, subst}
 use Prim.Native.Nat.{ℕ}

@@ -1,4 +1,4 @@
--- What a replay record does, to any memory (01, "The replay program"). Assumes nothing.
+-- What a replay record does, to any memory (01, "The replay program").
 use mathlib.Core.List.{List}
 use Prim.Native.Nat.{ℕ}
 use lib.ListN.{length}

@@ -1,5 +1,5 @@
 -- Sound memory stays sound, whatever a record asks for: a call leaves the cache that the model's step comes to, a creation a new
--- cache or nothing altered. Assumes nothing.
+-- cache or nothing altered.
 use mathlib.Core.Path.{_≡_, sym, subst}
 use mathlib.Core.List.{List}
 use Prim.Native.Nat.{ℕ, _≤_}

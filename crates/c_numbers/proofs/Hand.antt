@@ -1,5 +1,5 @@
 -- The hand's key in an answer is that of the first page in sweep order: the head's hand is the first seat of the ring, and a seat is
--- a slot. Assumes nothing.
+-- a slot.
 use mathlib.Core.Path.{_≡_}
 use mathlib.Core.List.{List, [], _∷_}
 use Prim.Native.Nat.{ℕ, _<_}

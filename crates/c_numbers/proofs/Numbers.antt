@@ -1,5 +1,5 @@
 -- A list of five or six numbers that are all stored is the new numbers, whatever stood there; a head is read as its numbers say,
--- by the test that they fit; the hand's key is read where the hand is a slot. Assumes nothing.
+-- by the test that they fit; the hand's key is read where the hand is a slot.
 use mathlib.Core.Path.{_≡_, refl, sym, ap, _∙_}
 use mathlib.Core.Bool.{Bool, true, false, not, _&&_, _||_, true≢false}
 use mathlib.Core.List.{List, [], _∷_}

@@ -1,4 +1,4 @@
--- The head of a cache as five numbers of 64 bits, and an answer as six. Assumes nothing.
+-- The head of a cache as five numbers of 64 bits, and an answer as six.
 use mathlib.Core.Bool.{Bool, cond, not, _&&_, _||_}
 use mathlib.Core.List.{List, [], _∷_}
 use Prim.Native.Nat.{ℕ, _^_}

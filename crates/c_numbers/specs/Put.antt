@@ -1,4 +1,4 @@
--- What is written of a creation and of an answer, and the code that is handed back with it. Assumes nothing.
+-- What is written of a creation and of an answer, and the code that is handed back with it.
 use mathlib.Core.Path.{_≡_}
 use mathlib.Core.List.{List}
 use Prim.Native.Nat.{ℕ}

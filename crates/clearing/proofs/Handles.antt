@@ -1,4 +1,4 @@
--- The handles of a walk go to the first places of the list, one at each turn. Assumes nothing.
+-- The handles of a walk go to the first places of the list, one at each turn.
 use mathlib.Core.Path.{_≡_, sym, ap, _∙_, subst}
 use mathlib.Core.List.{List, [], _∷_, _++_, map-append}
 use Prim.Native.Nat.{ℕ, _+_, _≤_, _<_}

@@ -1,5 +1,5 @@
 -- What stands against a clear: the index by key is the model's walk, so that the first dirty page along it is the first of
--- those that the model's rule asks for. Assumes nothing.
+-- those that the model's rule asks for.
 use mathlib.Core.Path.{_≡_, refl, sym, ap, _∙_, subst}
 use mathlib.Core.Bool.{Bool, true, false}
 use mathlib.Core.List.{List, [], _++_}

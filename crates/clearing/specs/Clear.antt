@@ -1,4 +1,4 @@
--- Everything goes (01, rule 11). Assumes nothing.
+-- Everything goes (01, rule 11).
 use mathlib.Core.Path.{_≡_}
 use mathlib.Core.Bool.{Bool, true, false}
 use mathlib.Core.List.{List, [], _∷_, map}

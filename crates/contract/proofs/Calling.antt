@@ -1,4 +1,4 @@
--- A public call tests the memory, and then refuses or acts: both ways it meets its contract. Assumes nothing.
+-- A public call tests the memory, and then refuses or acts: both ways it meets its contract.
 use mathlib.Core.Bool.{Bool, true, false, not}
 use mathlib.Core.List.{List}
 use mathlib.Core.Path.{_≡_, refl}

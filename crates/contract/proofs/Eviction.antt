@@ -1,5 +1,5 @@
 -- Demand 3 of the public calls, from their contract alone: what a call comes to is the model's step (Refused), and each sweep of
--- the model is by demand 3. Assumes nothing.
+-- the model is by demand 3.
 use mathlib.Core.Bool.{Bool, true, false, true≢false}
 use mathlib.Core.List.{[], _∷_, _++_}
 use mathlib.Core.Logic.{_↔_}

@@ -1,5 +1,5 @@
 -- From creation on, memory that only calls changed holds what the model's run of those calls comes to, so that what is proved
--- of runs is proved of the memory. Assumes nothing.
+-- of runs is proved of the memory.
 use mathlib.Core.List.{List, [], _∷_, _++_}
 use mathlib.Core.Path.{_≡_, refl, sym, subst}
 use Prim.Native.Nat.{ℕ}

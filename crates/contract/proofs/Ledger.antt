@@ -1,6 +1,6 @@
 -- Demand 3's ledger, of the memory. A call counts the touch that it does and the uses that its evictions take away, and no others
 -- (the model's Exact); both can be read off the memory before it and after it, since a memory holds one cache. What fell and what
--- is left is never more than what the touches added (the model's Ledger). Assumes nothing.
+-- is left is never more than what the touches added (the model's Ledger).
 use mathlib.Core.List.{List, [], _∷_, _++_}
 use mathlib.Core.Option.{Option, none, some}
 use mathlib.Core.Path.{_≡_, sym, ap, _∙_, subst}

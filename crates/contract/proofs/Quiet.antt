@@ -1,4 +1,4 @@
--- A call that lists nothing leaves a list alone, so that it need not be lent one. Assumes nothing.
+-- A call that lists nothing leaves a list alone, so that it need not be lent one.
 use mathlib.Core.Bool.{Bool, true, false}
 use mathlib.Core.List.{List, []}
 use mathlib.Core.Option.{Option, none, some}

@@ -1,6 +1,5 @@
 -- A call that leaves the cache as it was, and lists nothing, leaves every lent word as it was: a cache determines its memory.
 -- So a refusal by a test alters nothing, nor does any refusal that lists nothing, every answer from 11 on among them.
--- Assumes nothing.
 use mathlib.Core.List.{List, [], _∷_, _++_}
 use mathlib.Core.Logic.{_≢_}
 use mathlib.Core.Path.{_≡_, refl, sym, ap, _∙_, subst}

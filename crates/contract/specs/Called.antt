@@ -1,4 +1,4 @@
--- What a public call does, to any memory (01, "Answer codes" and "What the contracts have to say"). Assumes nothing.
+-- What a public call does, to any memory (01, "Answer codes" and "What the contracts have to say").
 use mathlib.Core.List.{List, [], _∷_, _++_}
 use mathlib.Core.Path.{_≡_}
 use Prim.Native.Nat.{ℕ, _<_, _^_}

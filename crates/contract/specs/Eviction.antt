@@ -1,4 +1,4 @@
--- Demand 3 of the public calls: one eviction, asked for, and the evictions that any call makes. Assumes nothing.
+-- Demand 3 of the public calls: one eviction, asked for, and the evictions that any call makes.
 use mathlib.Core.List.{_∷_, _++_}
 use mathlib.Core.Option.{Option, none, some}
 use mathlib.Core.Path.{_≡_}

@@ -1,5 +1,5 @@
 -- Every slot of a new pool is marked as free and every other word is zero, so it holds the cache with nothing in it; and
--- the three answers of a creation exclude each other, so that there is one outcome. Assumes nothing.
+-- the three answers of a creation exclude each other, so that there is one outcome.
 use mathlib.Core.Path.{_≡_, refl, sym, ap, _∙_, subst}
 use mathlib.Core.List.{List, [], _∷_, _++_, append-nil}
 use mathlib.Core.Option.{Option, none, some, Option·some-injective}

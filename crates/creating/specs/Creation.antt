@@ -1,4 +1,4 @@
--- Creation (01, rule 1 and codes 0, 15 and 16): what is answered, and every word of what is left. Assumes nothing.
+-- Creation (01, rule 1 and codes 0, 15 and 16): what is answered, and every word of what is left.
 use mathlib.Core.Path.{_≡_}
 use mathlib.Core.List.{List, [], _∷_, _++_}
 use mathlib.Core.Option.{Option, none, some}

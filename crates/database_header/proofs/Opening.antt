@@ -1,4 +1,4 @@
--- What each test of a header says of it, over the values that were read. Assumes nothing.
+-- What each test of a header says of it, over the values that were read.
 use mathlib.Core.Path.{_≡_, sym, ap, subst, subst⁻¹, _∙_}
 use mathlib.Core.Bool.{Bool, true, false, not, true≢false}
 use mathlib.Core.List.{List}

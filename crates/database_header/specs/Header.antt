@@ -1,4 +1,4 @@
--- The header of a database, from the document's section 1.3, and what opening one says of it. Assumes nothing.
+-- The header of a database, from the document's section 1.3, and what opening one says of it.
 use mathlib.Core.Path.{_≡_}
 use mathlib.Core.Bool.{true, cond}
 use mathlib.Core.List.{List, [], _∷_}

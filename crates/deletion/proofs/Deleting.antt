@@ -1,5 +1,5 @@
 -- A deletion at a slot. What is loaded there is the page that stands there, so the reason against it is the model's; and the
--- model's rule 8 goes by that reason alone. Assumes nothing.
+-- model's rule 8 goes by that reason alone.
 use mathlib.Core.Path.{_≡_, refl, sym, ap, _∙_, subst₃}
 use mathlib.Core.List.{List, [], _∷_}
 use mathlib.Core.Option.{Option, none, some}

@@ -1,4 +1,4 @@
--- Rule 8 at a slot: what a deletion asks of the memory and of the list, and what it leaves of them. Assumes nothing.
+-- Rule 8 at a slot: what a deletion asks of the memory and of the list, and what it leaves of them.
 use mathlib.Core.Path.{_≡_}
 use mathlib.Core.List.{List}
 use mathlib.Core.Logic.{_≢_}

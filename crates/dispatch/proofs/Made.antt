@@ -1,5 +1,5 @@
 -- A creation is the model's `create`: on memory that holds a cache it comes to that step, as every other call does to its own, and
--- on any memory it makes what the step makes of any cache with as many slots. Assumes nothing.
+-- on any memory it makes what the step makes of any cache with as many slots.
 use mathlib.Core.List.{[]}
 use mathlib.Core.Path.{_≡_, refl, sym, ap, _∙_, subst}
 use Prim.Native.Nat.{ℕ, _≤_, _<_}

@@ -1,5 +1,5 @@
 -- Each arm runs what the record's operation asks for: the operation is the arm's number, and the request stands at that place
--- of the table. Assumes nothing.
+-- of the table.
 use mathlib.Core.Path.{_≡_, refl, sym, ap, subst, _∙_}
 use mathlib.Core.List.{List, [], _∷_}
 use Prim.Native.Nat.{ℕ, zero, suc, _+_, _≤_}

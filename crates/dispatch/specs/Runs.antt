@@ -1,4 +1,4 @@
--- What a replay record comes to (01, "The replay program"). Assumes nothing.
+-- What a replay record comes to (01, "The replay program").
 use mathlib.Core.Path.{_≡_}
 use Prim.Native.Nat.{ℕ, _≤_}
 use lib.ListN.{length}

@@ -1,6 +1,6 @@
 -- One eviction comes to what demand 3 says. The sweep's answer is the model's (Turning), and the model's sweep takes the victim
 -- or finds that none may go, by demand 3 (model, Evictions). The victim is then the first of the row, and its removal leaves what
--- the model's sweep leaves. Assumes nothing.
+-- the model's sweep leaves.
 use mathlib.Core.Path.{_≡_, refl, sym, ap, _∙_, subst}
 use mathlib.Core.Bool.{true, false}
 use mathlib.Core.List.{List, [], _∷_}

@@ -1,5 +1,5 @@
 -- A look does what rule 3 says: the code asks whether the page may go and has no use left, in that order, and writes the slot
--- only where the entry changes. Assumes nothing.
+-- only where the entry changes.
 use mathlib.Core.Path.{_≡_, refl, sym, ap}
 use mathlib.Core.Bool.{Bool, true, false}
 use mathlib.Core.List.{List}

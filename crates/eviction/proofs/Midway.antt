@@ -1,5 +1,5 @@
 -- What the sweep's loop has done after some looks, and that one look more keeps it: the seats and the row are turned by one
--- together, so that the looks that are left come to what all of them come to. Assumes nothing.
+-- together, so that the looks that are left come to what all of them come to.
 use mathlib.Core.Path.{_≡_, refl, sym, ap, _∙_, subst}
 use mathlib.Core.Bool.{true, false}
 use mathlib.Core.List.{List, [], _∷_, _++_}

@@ -1,5 +1,5 @@
 -- Room for one page more: with capacity 0 none is made, and nothing changes; otherwise one page less than the capacity may
--- stay. The head's capacity is the cache's. Assumes nothing.
+-- stay. The head's capacity is the cache's.
 use mathlib.Core.Path.{_≡_, refl, sym, _∙_}
 use mathlib.Core.Bool.{true}
 use mathlib.Core.List.{List, []}

@@ -1,5 +1,5 @@
 -- Evictions one after another: what one has done and what the others come to are together what all of them come to, since
--- the model's evictions go on from the cache that one leaves. Assumes nothing.
+-- the model's evictions go on from the cache that one leaves.
 use mathlib.Core.Path.{_≡_, refl, sym, ap, _∙_, subst}
 use mathlib.Core.Bool.{Bool, true, false}
 use mathlib.Core.List.{List, [], _∷_, _++_, append-assoc, append-nil}

@@ -1,5 +1,5 @@
 -- The seats after a page was passed: its use count alone was written, and the ring begins one seat further on. So neither
--- names nor links have changed, and its entry, lowered, stands behind the rest of the row. Assumes nothing.
+-- names nor links have changed, and its entry, lowered, stands behind the rest of the row.
 use mathlib.Core.Path.{_≡_, refl}
 use mathlib.Core.List.{List, [], _∷_, _++_}
 use Prim.Native.Nat.{ℕ, _<_}

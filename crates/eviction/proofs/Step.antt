@@ -1,4 +1,4 @@
--- One eviction is one sweep of the model: demand 3 allows one outcome, and the model's sweep has it. Assumes nothing.
+-- One eviction is one sweep of the model: demand 3 allows one outcome, and the model's sweep has it.
 use mathlib.Core.Path.{_≡_, refl, sym, ap, _∙_, subst}
 use mathlib.Core.Option.{none, some}
 use Prim.Native.Nat.{ℕ, suc, _*_, _<_}

@@ -1,5 +1,5 @@
 -- The memory after a sweep holds the cache that it held, with the row turned to where the sweep ended: a sweep changes use
--- counts alone, and the indexes and marks know nothing of those, nor of where the ring begins. Assumes nothing.
+-- counts alone, and the indexes and marks know nothing of those, nor of where the ring begins.
 use mathlib.Core.Path.{_≡_, refl, sym, ap, _∙_, subst}
 use mathlib.Core.List.{List, [], _∷_}
 use Prim.Native.Nat.{ℕ, suc, _*_, _≤_, _<_}

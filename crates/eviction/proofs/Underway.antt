@@ -1,6 +1,5 @@
 -- The loop of evictions: each page that goes leaves its handle at the next place of the list, and there are as many places
 -- left as pages. A sweep passes at most 4 * maxSlots pages and leaves one less, so that the sum of the passed ones is bounded.
--- Assumes nothing.
 use mathlib.Core.Path.{_≡_, ap, _∙_}
 use mathlib.Core.Bool.{Bool, true, false}
 use mathlib.Core.List.{List, [], _∷_, _++_}

@@ -1,4 +1,4 @@
--- One eviction, in the words of demand 3. Assumes nothing.
+-- One eviction, in the words of demand 3.
 use Prim.Native.Nat.{ℕ, _≤_}
 use Rattle.page.specs.declared.cache.PageCache.{PageCache}
 use Rattle.page.specs.declared.names.PageHandle.{PageHandle}

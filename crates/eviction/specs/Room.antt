@@ -1,4 +1,4 @@
--- Evictions until there is room, with the list of the handles that went (01, rule 5 and "Answer codes"). Assumes nothing.
+-- Evictions until there is room, with the list of the handles that went (01, rule 5 and "Answer codes").
 use mathlib.Core.Path.{_≡_}
 use mathlib.Core.List.{List, _++_}
 use Prim.Native.Nat.{ℕ, _+_, _≤_}

@@ -1,4 +1,4 @@
--- A look and a sweep over the entries of the slots (01, rule 3). Assumes nothing.
+-- A look and a sweep over the entries of the slots (01, rule 3).
 use mathlib.Core.Path.{_≡_}
 use mathlib.Core.Bool.{Bool, true, false}
 use mathlib.Core.List.{List, _∷_}

@@ -1,5 +1,5 @@
 -- The digits of a number to the base 2: `|`, `&` and `!` work digit by digit, a power of two has a single one, and a
--- number is known by its digits. Each law goes from a number to its half. Assumes nothing.
+-- number is known by its digits. Each law goes from a number to its half.
 use mathlib.Core.Path.{_≡_, refl, sym, ap, _∙_, subst}
 use Prim.Native.Nat.{ℕ, zero, suc, _*_, _+_, _-_, _/_, _%_, _^_, _≤_, _<_, min, max, suc-le-suc}
 use native.Mathlib.Nat.{div-div-eq-div-mul, div-one, div-lt-iff-lt-mul, zero-div, zero-lt-suc, pow-suc, pow-succ', le-of-suc-le-suc}

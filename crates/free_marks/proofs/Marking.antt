@@ -1,5 +1,5 @@
 -- A mark is a digit of a word: writing one keeps the others, a walk from slot 0 comes to the lowest free slot, and words
--- of 64 bits are known by their marks. Assumes nothing.
+-- of 64 bits are known by their marks.
 use mathlib.Core.Path.{_≡_, ap, _∙_}
 use mathlib.Core.Logic.{⊎-elim}
 use mathlib.Core.List.{List}

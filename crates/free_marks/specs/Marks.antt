@@ -1,4 +1,4 @@
--- The marks of the slots (01, "Free slots are 1 bits in 64-bit words, lowest slot in the lowest bit"). Assumes nothing.
+-- The marks of the slots (01, "Free slots are 1 bits in 64-bit words, lowest slot in the lowest bit").
 use mathlib.Core.Path.{_≡_}
 use mathlib.Core.List.{List}
 use Prim.Native.Nat.{ℕ, _/_, _%_, _^_, _≤_, _<_}

@@ -1,4 +1,4 @@
--- Each turn of the walk passes one good block, so that the chain comes to what the rest of it comes to. Assumes nothing.
+-- Each turn of the walk passes one good block, so that the chain comes to what the rest of it comes to.
 use mathlib.Core.Path.{_≡_, sym, subst, _∙_}
 use mathlib.Core.List.{List}
 use Prim.Native.Nat.{ℕ, _+_, _-_, _<_}

@@ -1,5 +1,5 @@
 -- A page under an absent key. Evictions leave pages that were there, so that the key and the handle are still new; where they
--- made room, a slot is free; and where they did not, the form decides. Assumes nothing.
+-- made room, a slot is free; and where they did not, the form decides.
 use mathlib.Core.Path.{_≡_, refl, sym, ap, _∙_}
 use mathlib.Core.Bool.{Bool, true, false, not, _&&_, false≢true}
 use mathlib.Core.List.{List, append-nil}

@@ -1,5 +1,4 @@
 -- By what stands under the key: nothing, and then the key is new; a page that is stale; or one that is loaded or locked.
--- Assumes nothing.
 use mathlib.Core.Path.{_≡_, refl, sym, ap, _∙_}
 use mathlib.Core.Bool.{Bool, true, false}
 use mathlib.Core.List.{List, []}

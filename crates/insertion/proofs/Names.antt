@@ -1,5 +1,5 @@
 -- New names. An absent key is new, and a handle that stands under no other key is new with it; so are they once the key's own
--- page has been deleted, since no other has its key. Assumes nothing.
+-- page has been deleted, since no other has its key.
 use mathlib.Core.Path.{_≡_, sym, subst}
 use mathlib.Core.Bool.{false}
 use mathlib.Core.List.{[], _∷_, _++_}

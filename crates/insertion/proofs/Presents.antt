@@ -1,5 +1,5 @@
 -- A page under a key that is there, loaded or locked. A touch changes no page: the key still finds its entry, at the same slot,
--- and the handle still stands under no other key, so that the entry can be replaced. Assumes nothing.
+-- and the handle still stands under no other key, so that the entry can be replaced.
 use mathlib.Core.Path.{_≡_, refl, sym, ap, _∙_}
 use mathlib.Core.Bool.{Bool, true, false, true≢false, false≢true}
 use mathlib.Core.List.{List}

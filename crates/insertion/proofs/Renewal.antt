@@ -1,5 +1,5 @@
 -- A stale page under the key. It goes and is listed, and the new page is admitted without it; or rule 8 refuses, and then
--- nothing follows. Assumes nothing.
+-- nothing follows.
 use mathlib.Core.Path.{_≡_, refl}
 use mathlib.Core.List.{List, [], _∷_}
 use Prim.Native.Nat.{ℕ, suc}

@@ -1,5 +1,5 @@
 -- The tests before the rules are the model's, in the model's order: so the call answers a refusal where the model does, and
--- otherwise acts. Assumes nothing.
+-- otherwise acts.
 use mathlib.Core.Path.{_≡_, refl, sym, _∙_}
 use mathlib.Core.Bool.{Bool, true, false}
 use mathlib.Core.List.{List}

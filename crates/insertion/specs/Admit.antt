@@ -1,5 +1,5 @@
 -- What the admission of a page asks of the memory and what it comes to: the model's rules 5 and 7, of every cache that the
--- memory holds. Assumes nothing.
+-- memory holds.
 use mathlib.Core.Path.{_≡_}
 use mathlib.Core.List.{List}
 use Prim.Native.Nat.{ℕ, _+_, _≤_}

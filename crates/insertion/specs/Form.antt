@@ -1,4 +1,4 @@
--- The three forms of an insertion, and what the form decides (01, rules 6 and 7). Assumes nothing.
+-- The three forms of an insertion, and what the form decides (01, rules 6 and 7).
 use mathlib.Core.Bool.{Bool, true, false}
 use Prim.Native.Nat.{ℕ}
 use lib.Dec.{ltb}

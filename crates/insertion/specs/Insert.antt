@@ -1,5 +1,4 @@
 -- What the insertions ask of the memory and what they come to: the model's rules, of every cache that the memory holds.
--- Assumes nothing.
 use mathlib.Core.List.{List}
 use mathlib.Core.Option.{some}
 use Prim.Native.Nat.{ℕ, _≤_}

@@ -1,4 +1,4 @@
--- What an insertion comes to where the key is there: the model's rule 6, of every cache that the memory holds. Assumes nothing.
+-- What an insertion comes to where the key is there: the model's rule 6, of every cache that the memory holds.
 use mathlib.Core.Path.{_≡_}
 use mathlib.Core.Bool.{false}
 use mathlib.Core.List.{List}

@@ -1,5 +1,5 @@
 -- What an insertion asks of the memory where the key is there, and what it comes to if the key's page is stale: the model's
--- rule 6, of every cache that the memory holds. Assumes nothing.
+-- rule 6, of every cache that the memory holds.
 use mathlib.Core.Path.{_≡_}
 use mathlib.Core.Bool.{false}
 use mathlib.Core.List.{List}

@@ -1,6 +1,5 @@
 -- A list that is filled page by page: the stores of the pages that are left make the list that all stores make, and when none
 -- is left it is that list. Here a page takes some number of places, so that the laws serve both forms of the listing.
--- Assumes nothing.
 use mathlib.Core.Path.{_≡_, refl, sym, ap, _∙_}
 use mathlib.Core.List.{List, [], _∷_, _++_, flatMap}
 use Prim.Native.Nat.{ℕ, zero, suc, _+_, _*_, _≤_, _<_}

@@ -1,5 +1,5 @@
 -- The verdict says whether the memory is sound and the list long enough, so that no other verdict can be given; and a listing of
--- as many pages as the verdict says leaves the list as the answer has it. Assumes nothing.
+-- as many pages as the verdict says leaves the list as the answer has it.
 use mathlib.Core.Path.{_≡_, refl, sym, ap, _∙_}
 use mathlib.Core.List.{List, [], flatMap}
 use Prim.Native.Nat.{ℕ, _/_, _≤_, _<_}

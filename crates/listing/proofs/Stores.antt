@@ -1,5 +1,5 @@
 -- Stores one after another: a run of stores goes on where another ended, and from the first place it is the new elements and
--- what is left of the old ones. Assumes nothing.
+-- what is left of the old ones.
 use mathlib.Core.Path.{_≡_, ap, _∙_}
 use mathlib.Core.List.{List, [], _∷_, _++_}
 use Prim.Native.Nat.{ℕ, suc, _+_, _≤_}

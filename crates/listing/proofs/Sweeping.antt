@@ -1,5 +1,5 @@
 -- The pages that next links lead to from a slot: they are those of the row that stands there, and the row of a cache stands
--- in the slots from its hand on. Assumes nothing.
+-- in the slots from its hand on.
 use mathlib.Core.Path.{_≡_, refl, sym, _∙_, subst}
 use mathlib.Core.List.{List, [], _∷_}
 use Prim.Native.Nat.{ℕ, zero, suc, _<_}

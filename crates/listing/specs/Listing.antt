@@ -1,5 +1,4 @@
 -- The pool listing: the held pages in sweep order, each with its key, handle and use count (01, "The pool listing").
--- Assumes nothing.
 use mathlib.Core.Path.{_≡_}
 use mathlib.Core.List.{List, [], _∷_, _++_, map, flatMap}
 use Prim.Native.Nat.{ℕ, _*_, _≤_, _<_}

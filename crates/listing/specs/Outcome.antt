@@ -1,4 +1,4 @@
--- What comes of a listing of any memory (01, "Answer codes" 0, 1 and 3). Assumes nothing.
+-- What comes of a listing of any memory (01, "Answer codes" 0, 1 and 3).
 use mathlib.Core.Path.{_≡_}
 use mathlib.Core.List.{List}
 use Prim.Native.Nat.{ℕ, _≤_, _<_}

@@ -1,5 +1,4 @@
 -- Rule 9: a lookup that passes its test does what the rule says of the entry that the search found, or of none.
--- Assumes nothing.
 use mathlib.Core.Path.{_≡_, refl, sym, ap, _∙_, subst}
 use mathlib.Core.Bool.{Bool, true, false}
 use mathlib.Core.List.{List}

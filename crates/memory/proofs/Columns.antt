@@ -1,5 +1,5 @@
 -- What a write to one slot leaves of all that is no link. Linking, unlinking and storing change the links of the slot and of
--- its neighbours; links apart, each of them writes one entry to one slot, so one law serves all three. Assumes nothing.
+-- its neighbours; links apart, each of them writes one entry to one slot, so one law serves all three.
 use mathlib.Core.Path.{_≡_, refl, sym, ap, _∙_}
 use mathlib.Core.List.{List, [], _∷_, _++_, map}
 use Prim.Native.Nat.{ℕ, _<_}

@@ -1,5 +1,4 @@
 -- Loops over the lent memory keep the lengths of its parts: what held up to a turn and what the turn keeps hold together.
--- Assumes nothing.
 use mathlib.Core.Path.{_≡_, refl, _∙_}
 use lib.ListN.{length}
 use Rattle.memory.specs.Memory.{Memory}

@@ -1,5 +1,5 @@
 -- The marks of a pool whose seats are given up and taken. A mark says whether its slot is a seat, so one mark changes as one
--- slot does; and the lowest mark that is set is the model's lowest free slot. Assumes nothing.
+-- slot does; and the lowest mark that is set is the model's lowest free slot.
 use mathlib.Core.Path.{_≡_, refl, sym, ap, _∙_}
 use mathlib.Core.Bool.{Bool, true, false, cond, _||_, true≢false}
 use mathlib.Core.List.{List, [], _∷_, _++_}

@@ -1,7 +1,7 @@
 -- A cache determines its memory, and a memory its cache. The row of a cache names the seats, so two memories of one cache
 -- have the same seats and entries, and by these the same indexes, marks and head. The other way round the links, followed
 -- from the hand as often as the head says that pages are held, come to the seats. Links that are all zero are the ring of
--- no slot and the ring of slot 0 alone: the number of held pages decides. Assumes nothing.
+-- no slot and the ring of slot 0 alone: the number of held pages decides.
 use mathlib.Core.Path.{_≡_, refl, sym, ap, _∙_, subst}
 use mathlib.Core.Bool.{Bool, true, false, cond}
 use mathlib.Core.List.{List, map}

@@ -1,5 +1,5 @@
 -- The seats and the row determine the entries: a slot that is no seat is blank, and of one that is a seat the row says all
--- but the links, which the ring of the seats determines, and the spare byte, which is 0. Assumes nothing.
+-- but the links, which the ring of the seats determines, and the spare byte, which is 0.
 use mathlib.Core.Path.{_≡_, refl, sym, ap, _∙_}
 use mathlib.Core.Logic.{_⊎_, inl, inr, ⊎-elim}
 use mathlib.Core.List.{List, [], _∷_, map}

@@ -1,5 +1,5 @@
 -- There is memory that holds a cache, with and without a page. Both examples are of one slot, and all words but those of
--- the marks are zero in both: what tells them apart is the mark of slot 0 and the number of held pages. Assumes nothing.
+-- the marks are zero in both: what tells them apart is the mark of slot 0 and the number of held pages.
 use mathlib.Core.Path.{_≡_, refl, ap, _∙_}
 use mathlib.Core.Bool.{true, cond}
 use mathlib.Core.List.{[], _∷_}

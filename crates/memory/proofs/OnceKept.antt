@@ -1,5 +1,5 @@
 -- What the model keeps is what sound memory holds: a ring comes to no slot twice, an index that ascends strictly has no
--- name twice, and the fields of a word of 64 bits fit their places. Assumes nothing.
+-- name twice, and the fields of a word of 64 bits fit their places.
 use mathlib.Core.Path.{_≡_, refl, sym, ap, _∙_, subst}
 use mathlib.Core.Bool.{true}
 use mathlib.Core.Logic.{_≢_}

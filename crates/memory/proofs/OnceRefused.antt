@@ -1,5 +1,5 @@
 -- Memory that holds no cache: the lengths that `Holds` asks for are those of any memory that holds one, and where nothing
--- is held every slot is free, so slot 0 has a mark. Assumes nothing.
+-- is held every slot is free, so slot 0 has a mark.
 use mathlib.Core.Path.{_≡_, sym, ap, _∙_, subst}
 use mathlib.Core.List.{List, [], _∷_}
 use Prim.Native.Nat.{ℕ, _≤_}

@@ -1,5 +1,4 @@
 -- Capacity, switch and estimate stand in the head alone: memory that holds a cache holds the one with others, once a head says so.
--- Assumes nothing.
 use mathlib.Core.Bool.{Bool}
 use Prim.Native.Nat.{ℕ, _≤_}
 use Rattle.page.specs.declared.cache.PageCache.{PageCache}

@@ -1,5 +1,5 @@
 -- Where an entry of the row stands. The row is read off the seats one by one, so a split of the row is a split of the seats,
--- and finding, changing and removing by key speak of one seat. Assumes nothing.
+-- and finding, changing and removing by key speak of one seat.
 use mathlib.Core.Path.{_≡_, refl, sym, ap, _∙_, subst}
 use mathlib.Core.Bool.{true}
 use mathlib.Core.List.{List, [], _∷_, _++_}

@@ -1,6 +1,6 @@
 -- The index by key is the order of every walk over keys. Both the model's walk and the index are the held pages by strictly
 -- ascending key, and such an order is told by its members: so they are one. A loop over the index meets the walk's entries
--- one after another. Assumes nothing.
+-- one after another.
 use mathlib.Core.Path.{_≡_, refl, sym, ap, _∙_, subst}
 use mathlib.Core.Bool.{Bool, true, false, _||_, true≢false}
 use mathlib.Core.List.{List, [], _∷_, _++_, append-nil, map-append}

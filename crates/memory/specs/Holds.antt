@@ -1,4 +1,4 @@
--- What it means that the lent memory holds a cache, and that it is sound (01, "Memory, pages and numbers"). Assumes nothing.
+-- What it means that the lent memory holds a cache, and that it is sound (01, "Memory, pages and numbers").
 use mathlib.Core.Path.{_≡_}
 use mathlib.Core.Bool.{Bool, cond}
 use mathlib.Core.List.{List, map}

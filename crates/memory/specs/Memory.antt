@@ -1,4 +1,4 @@
--- The lent memory as one value. Assumes nothing.
+-- The lent memory as one value.
 use mathlib.Core.List.{List}
 use Prim.Native.Nat.{ℕ}
 use denote.Ref.{RefT}

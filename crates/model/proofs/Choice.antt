@@ -1,5 +1,5 @@
 -- A row has a victim, or none of its entries may go: walking the row from its end, an entry that may go and has no more uses
--- than the victim of the rest is the victim itself, and any other leaves it as it was. Assumes nothing.
+-- than the victim of the rest is the victim itself, and any other leaves it as it was.
 use mathlib.Core.Bool.{Bool, true, false}
 use mathlib.Core.List.{[], _∷_, _++_}
 use mathlib.Core.Logic.{_⊎_, inl, inr}

@@ -1,5 +1,5 @@
 -- Every eviction of the model is by demand 3: each sweep comes to what the demand says (Evicts), so one eviction does, and so do
--- evictions one after another. What falls in one is what the row has less after it (Totals). Assumes nothing.
+-- evictions one after another. What falls in one is what the row has less after it (Totals).
 use mathlib.Core.Bool.{Bool, true, false, cond}
 use mathlib.Core.List.{[], _∷_, _++_, map}
 use mathlib.Core.Option.{Option, none, some}

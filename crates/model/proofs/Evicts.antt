@@ -1,5 +1,5 @@
 -- The sweep comes to what demand 3 says, and to nothing else: a row has a victim or none may go (Choice), and the looks find
--- the victim or go round four times in vain (Rounds). Over any test of which pages may go. Assumes nothing.
+-- the victim or go round four times in vain (Rounds). Over any test of which pages may go.
 use mathlib.Core.Bool.{Bool}
 use mathlib.Core.List.{_∷_, _++_}
 use mathlib.Core.Logic.{_⊎_, inl, inr, _↔_}

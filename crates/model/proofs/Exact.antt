@@ -1,5 +1,5 @@
 -- An outcome counts what there is to count: the touch that a call does to a page and the uses that its evictions take away, and no
--- others. Rule by rule, for every call; a run adds them up. Assumes nothing.
+-- others. Rule by rule, for every call; a run adds them up.
 use mathlib.Core.Bool.{Bool, true, false}
 use mathlib.Core.List.{List, [], _∷_, _++_, append-nil}
 use mathlib.Core.Option.{Option, none, some}

@@ -1,4 +1,4 @@
--- The table of examples: every run gives what the table says, by computation. Assumes nothing.
+-- The table of examples: every run gives what the table says, by computation.
 use mathlib.Core.List.{map}
 use mathlib.Core.Path.{_≡_, refl}
 use Rattle.model.specs.Row.{find, change, without, sortIn, byKey, those}

@@ -1,5 +1,4 @@
 -- What a cache keeps from its creation on, call by call: a test that refuses changes nothing, and every rule keeps the limits.
--- Assumes nothing.
 use mathlib.Core.List.{List, [], _∷_}
 use mathlib.Core.Path.{_≡_, refl, ap}
 use Prim.Native.Nat.{ℕ, zero, suc, _≤_}

@@ -1,5 +1,5 @@
 -- What holds after each branch of a test holds after the test: so a fact of an outcome is shown rule by rule, by the answers
--- that the rule can give. Assumes nothing.
+-- that the rule can give.
 use mathlib.Core.Bool.{Bool, true, false, cond}
 use mathlib.Core.List.{[], _∷_}
 use mathlib.Core.Path.{_≡_, refl}

@@ -1,6 +1,6 @@
 -- What insertion leaves. A new page has a free slot, its key was absent or has just been deleted, and test 12 says that its
 -- handle is no other page's. Code 13 comes after an attempt to make room, with held = S: so no page went, neither a stale one
--- nor by a sweep, and a sweep that takes none changes nothing. Assumes nothing.
+-- nor by a sweep, and a sweep that takes none changes nothing.
 use mathlib.Core.Bool.{true, false}
 use mathlib.Core.List.{List, [], _∷_, _++_}
 use mathlib.Core.Logic.{_≢_, inl, inr}

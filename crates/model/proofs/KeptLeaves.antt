@@ -1,5 +1,4 @@
 -- What a rule leaves, put together as outcomes are: an answer, a listed handle before an outcome, an outcome after evictions.
--- Assumes nothing.
 use mathlib.Core.List.{List, [], _∷_, _++_, cons≢nil}
 use mathlib.Core.Logic.{_≢_, _⊎_, inl, inr}
 use mathlib.Core.Path.{_≡_, refl, _∙_}

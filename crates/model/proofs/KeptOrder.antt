@@ -1,6 +1,5 @@
 -- The walk over keys meets every entry of the row once, by ascending key: an entry is sorted in before the first that has a
 -- higher key, and none is lost or made. No other row is ascending and has the same entries: its first has the lowest key.
--- Assumes nothing.
 use mathlib.Core.Bool.{Bool, true, false}
 use mathlib.Core.List.{List, [], _∷_}
 use mathlib.Core.Path.{_≡_, refl, sym, ap, _∙_}

@@ -1,5 +1,5 @@
 -- Every change of one page keeps the limits: a page that stands in the row goes, is touched, has its record written, or gives
--- its place to another, and the row splits there. Assumes nothing.
+-- its place to another, and the row splits there.
 use mathlib.Core.Bool.{Bool}
 use mathlib.Core.List.{_∷_, _++_}
 use mathlib.Core.Option.{Option, none, some}

@@ -1,6 +1,5 @@
 -- What sweeps and evictions keep. A look keeps a row within its limits, so a sweep does, and so do evictions one after another.
 -- Each eviction leaves one page less, the others are the pages that were there, and a sweep that takes none changes nothing.
--- Assumes nothing.
 use mathlib.Core.Bool.{Bool, false, true≢false}
 use mathlib.Core.List.{[], _∷_, _++_, cons≢nil}
 use mathlib.Core.Option.{Option, none, some}

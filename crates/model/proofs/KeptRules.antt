@@ -1,5 +1,5 @@
 -- What every call leaves: the limits are kept, no more handles are listed than pages were held, and a code from 11 on says that
--- nothing was changed. Rule by rule, by the answers that the rule can give. Assumes nothing.
+-- nothing was changed. Rule by rule, by the answers that the rule can give.
 use mathlib.Core.Bool.{Bool, true, false}
 use mathlib.Core.List.{List, [], _∷_, map, append-nil}
 use mathlib.Core.Logic.{inl}

@@ -1,5 +1,5 @@
 -- No call changes the number of slots: every rule builds the cache that it leaves from the one that it was given, with the
--- same size. Assumes nothing.
+-- same size.
 use mathlib.Core.Bool.{Bool, true, false}
 use mathlib.Core.List.{List, [], _∷_}
 use mathlib.Core.Option.{Option, none, some}

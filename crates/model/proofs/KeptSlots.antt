@@ -1,5 +1,5 @@
 -- The lowest free slot is free, every slot below it is taken, and it is at most the number of entries. For n + 1 taken slots
--- need n + 1 entries: take away the entry of one slot, and the other slots are taken still. Assumes nothing.
+-- need n + 1 entries: take away the entry of one slot, and the other slots are taken still.
 use mathlib.Core.Bool.{Bool, true, false, _||_, false≢true}
 use mathlib.Core.List.{[], _∷_}
 use mathlib.Core.Logic.{_≢_}

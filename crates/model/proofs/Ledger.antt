@@ -1,5 +1,5 @@
 -- Sweeps take away no more uses than there were touches: uses come into a row by touches alone, so what sweeps took away and
--- what the row has left is never more than the touches and what the row had. Call by call, and so over a run. Assumes nothing.
+-- what the row has left is never more than the touches and what the row had. Call by call, and so over a run.
 use mathlib.Core.Bool.{Bool, true, false}
 use mathlib.Core.List.{List, [], _∷_}
 use mathlib.Core.Option.{Option, none, some}

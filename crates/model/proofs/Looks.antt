@@ -1,5 +1,5 @@
 -- A sweep look by look. The entry at the hand goes, or it doesn't and the other looks follow: this is what `looks` says, once
--- the test of the entry is known. Assumes nothing.
+-- the test of the entry is known.
 use mathlib.Core.Bool.{Bool, true, false, _&&_, false≢true}
 use mathlib.Core.List.{[], _∷_, _++_}
 use mathlib.Core.Option.{none, some}

@@ -1,5 +1,5 @@
 -- What `lower` does to a row, and rows in which every entry that may go has at least r uses. Each law holds of one entry, by
--- cases on whether it may go, and so of each entry of a row. Assumes nothing.
+-- cases on whether it may go, and so of each entry of a row.
 use mathlib.Core.Bool.{Bool, true, false, cond, true≢false}
 use mathlib.Core.List.{[], _∷_, map}
 use mathlib.Core.Path.{_≡_, refl, sym, _∙_}

@@ -1,5 +1,5 @@
 -- Rows whose entries have different numbers, be it slot, key or handle: every law is stated once, over any number of a page.
--- An entry that differs from all others may stand at any place of the row, and the rest follows. Assumes nothing.
+-- An entry that differs from all others may stand at any place of the row, and the rest follows.
 use mathlib.Core.List.{[], _∷_, _++_, append-nil}
 use mathlib.Core.Logic.{_≢_}
 use mathlib.Core.Path.{_≡_, sym, subst}

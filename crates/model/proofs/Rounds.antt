@@ -1,5 +1,5 @@
 -- The looks as far as the victim, by induction on its use count: a round for each use, in which every entry that may go loses
--- one, and then the way to the victim. Assumes nothing.
+-- one, and then the way to the victim.
 use mathlib.Core.Bool.{Bool, true}
 use mathlib.Core.List.{[], _∷_, _++_, map, append-assoc, append-nil}
 use mathlib.Core.Option.{none, some}

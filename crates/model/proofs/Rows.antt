@@ -1,5 +1,4 @@
 -- What holds of each entry of a row holds of each entry of its parts, and the other way round: by a walk along the row.
--- Assumes nothing.
 use mathlib.Core.List.{[], _∷_, _++_, map}
 use Rattle.model.specs.Row.{Entry, Row, Each}
 

@@ -1,5 +1,5 @@
 -- The sum of a row's use counts: a sweep takes from it what it takes from the entries, a touch adds at most 1, a removal adds
--- nothing, and a new page has count 0. Assumes nothing.
+-- nothing, and a new page has count 0.
 use mathlib.Core.Bool.{Bool, true, false}
 use mathlib.Core.List.{[], _∷_, _++_}
 use mathlib.Core.Path.{_≡_, refl}

@@ -1,5 +1,5 @@
 -- A page that leaves the row leaves the walk over its keys, and the rest of the walk stays as it is: without the page the walk
--- still ascends and has the others, and there is one such walk. Assumes nothing.
+-- still ascends and has the others, and there is one such walk.
 use mathlib.Core.Path.{_≡_, refl, sym, ap, _∙_, subst}
 use mathlib.Core.List.{[], _∷_, _++_}
 use mathlib.Core.Option.{some}

@@ -1,4 +1,4 @@
--- The calls with their arguments, and what a call comes to. Assumes nothing.
+-- The calls with their arguments, and what a call comes to.
 use mathlib.Core.Bool.{Bool}
 use mathlib.Core.List.{List, [], _++_}
 use Prim.Native.Nat.{ℕ, _+_}

@@ -1,4 +1,4 @@
--- Demand 3: what one eviction comes to, said at once. Assumes nothing.
+-- Demand 3: what one eviction comes to, said at once.
 use mathlib.Core.Bool.{Bool, true, false}
 use mathlib.Core.List.{_∷_, _++_, map}
 use mathlib.Core.Option.{none, some}

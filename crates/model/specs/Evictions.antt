@@ -1,4 +1,4 @@
--- Demand 3 of every eviction from a cache: one, and several one after another. Assumes nothing.
+-- Demand 3 of every eviction from a cache: one, and several one after another.
 use mathlib.Core.Bool.{true}
 use mathlib.Core.List.{[], _∷_, _++_}
 use mathlib.Core.Path.{_≡_}

@@ -1,5 +1,5 @@
 -- 01's sweeps to check by hand, P1 to P9 and the others that need no memory, and an example of each call and each answer, as a
--- table. `proofs/Examples.antt` has the one statement that covers it. Assumes nothing.
+-- table. `proofs/Examples.antt` has the one statement that covers it.
 use mathlib.Core.Bool.{true, false}
 use mathlib.Core.List.{List, [], _∷_, _++_, map}
 use Prim.Native.Nat.{ℕ, _*_, _-_}

@@ -1,4 +1,4 @@
--- What a cache keeps from its creation on. Assumes nothing.
+-- What a cache keeps from its creation on.
 use mathlib.Core.List.{List, [], _∷_}
 use mathlib.Core.Logic.{_≢_}
 use Prim.Native.Nat.{ℕ, _≤_, _<_, _^_}

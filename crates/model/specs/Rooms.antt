@@ -1,4 +1,4 @@
--- Rule 5: evictions, one after another, until there is room. Assumes nothing.
+-- Rule 5: evictions, one after another, until there is room.
 use mathlib.Core.Bool.{Bool, true, false}
 use mathlib.Core.List.{List, [], _∷_, _++_}
 use mathlib.Core.Option.{Option, none, some}

@@ -1,4 +1,4 @@
--- The pages that a cache holds, in sweep order: a row, the list of entries that begins at the hand. Assumes nothing.
+-- The pages that a cache holds, in sweep order: a row, the list of entries that begins at the hand.
 use mathlib.Core.Bool.{Bool, true, false}
 use mathlib.Core.List.{List, [], _∷_}
 use mathlib.Core.Option.{Option, none, some}

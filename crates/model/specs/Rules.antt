@@ -1,4 +1,4 @@
--- Rules 6 to 12, a call at a time. Assumes nothing.
+-- Rules 6 to 12, a call at a time.
 use mathlib.Core.Bool.{Bool, true, false, not, _&&_}
 use mathlib.Core.List.{List, [], _∷_, map}
 use mathlib.Core.Option.{Option, none, some}

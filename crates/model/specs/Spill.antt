@@ -1,4 +1,4 @@
--- Rules 13 and 14: whether a spill is needed, and which pages it selects. Assumes nothing.
+-- Rules 13 and 14: whether a spill is needed, and which pages it selects.
 use mathlib.Core.Bool.{Bool, true, false, _&&_}
 use mathlib.Core.List.{List, [], _∷_, map}
 use Prim.Native.Nat.{ℕ, _+_, _-_}

@@ -1,4 +1,4 @@
--- Rules 2 and 3: a touch, a look at the hand, and a sweep, over any test of which pages may go. Assumes nothing.
+-- Rules 2 and 3: a touch, a look at the hand, and a sweep, over any test of which pages may go.
 use mathlib.Core.Bool.{Bool, true, false, cond, _&&_}
 use mathlib.Core.List.{[], _∷_, _++_}
 use mathlib.Core.Option.{Option, none, some}

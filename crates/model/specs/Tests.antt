@@ -1,5 +1,4 @@
 -- The tests before the rules, in 01's order: 15, 2, 3, 12. (16 and 1 come before them, and are about memory.)
--- Assumes nothing.
 use mathlib.Core.Bool.{Bool, true, false, cond, not, _&&_}
 use mathlib.Core.List.{[], _∷_}
 use mathlib.Core.Option.{Option, none, some}

@@ -1,6 +1,5 @@
 -- Demand 3's ledger: which page a call touches, and which evictions it makes, told from the cache before the call. An `Outcome`
 -- counts touches and falls where they happen; that it counts these and no others is proved (proofs/Exact.antt).
--- Assumes nothing.
 use mathlib.Core.Bool.{Bool, true, false}
 use mathlib.Core.List.{List, [], _∷_, _++_}
 use mathlib.Core.Option.{Option, none, some}

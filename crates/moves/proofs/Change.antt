@@ -1,5 +1,5 @@
 -- The memory with a page changed in its place. A store that keeps the slot's links keeps the ring, and one that keeps a name
--- keeps the index by it: so the memory holds the row with that entry changed. Assumes nothing.
+-- keeps the index by it: so the memory holds the row with that entry changed.
 use mathlib.Core.Path.{_≡_, refl, sym, ap, _∙_}
 use mathlib.Core.Bool.{false}
 use mathlib.Core.List.{List, _∷_, _++_}

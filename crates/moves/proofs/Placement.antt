@@ -1,6 +1,5 @@
 -- The memory with a new page. Each part takes the lowest free slot in by a law of its own: the ring opens after the hand, each
 -- index lists it, its mark is cleared, and the head counts it. So the memory holds the row that the page has entered.
--- Assumes nothing.
 use mathlib.Core.Path.{_≡_, refl, sym, ap, _∙_, subst}
 use mathlib.Core.Bool.{Bool, true, false, cond}
 use mathlib.Core.List.{List, [], _∷_}

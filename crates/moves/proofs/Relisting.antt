@@ -1,5 +1,5 @@
 -- A seat of an index under another name. It goes out of its place under the old name and comes in at the gap of the new one,
--- and what is listed is the same seats. Assumes nothing.
+-- and what is listed is the same seats.
 use mathlib.Core.Path.{_≡_, sym, ap, _∙_, subst}
 use mathlib.Core.List.{List, _∷_, _++_}
 use Prim.Native.Nat.{ℕ, _-_, _≤_, _<_}

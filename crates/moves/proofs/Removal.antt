@@ -1,5 +1,5 @@
 -- The memory without a page. Each part leaves the page's slot out by a law of its own: the ring closes over it, each index no
--- longer lists it, its mark is set, and the head forgets it. So the memory holds the row without that entry. Assumes nothing.
+-- longer lists it, its mark is set, and the head forgets it. So the memory holds the row without that entry.
 use mathlib.Core.Path.{_≡_, refl, sym, ap, _∙_, subst}
 use mathlib.Core.Bool.{cond}
 use mathlib.Core.List.{List, [], _∷_, _++_}

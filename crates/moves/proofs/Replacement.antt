@@ -1,6 +1,5 @@
 -- The memory with a page replaced in its place: another handle, another record. No other seat has the new handle, since one
 -- that had it would have the key too; so the index by handle lists the slot anew, and the rest is a change in place.
--- Assumes nothing.
 use mathlib.Core.Path.{_≡_, refl, sym, ap, _∙_, subst}
 use mathlib.Core.Bool.{false, true}
 use mathlib.Core.List.{List, _∷_, _++_}

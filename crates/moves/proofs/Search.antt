@@ -1,5 +1,5 @@
 -- What a search of an index says of the row. The index lists the seats, a seat's name is its entry's, and no two seats share
--- one: so a name that is found is the entry's, and one that isn't found is no entry's. Assumes nothing.
+-- one: so a name that is found is the entry's, and one that isn't found is no entry's.
 use mathlib.Core.Path.{_≡_, refl, sym, ap, _∙_, subst}
 use mathlib.Core.Bool.{Bool, true, false, not, _&&_, true≢false}
 use mathlib.Core.List.{List, [], _∷_, _++_}

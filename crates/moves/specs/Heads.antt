@@ -1,4 +1,4 @@
--- The head of a cache after a page went or came, and the entries after one came (01, rules 1, 4 and 12). Assumes nothing.
+-- The head of a cache after a page went or came, and the entries after one came (01, rules 1, 4 and 12).
 use mathlib.Core.Bool.{cond}
 use mathlib.Core.List.{List}
 use Prim.Native.Nat.{ℕ, _+_, _-_}

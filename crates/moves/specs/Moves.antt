@@ -1,5 +1,5 @@
 -- What the moves ask of the memory and what they make of it. Each asks for memory that holds a cache, and then says, of every
--- cache that it holds, which cache it holds afterwards: a change that the model has a word for. Assumes nothing.
+-- cache that it holds, which cache it holds afterwards: a change that the model has a word for.
 use mathlib.Core.Path.{_≡_}
 use mathlib.Core.Bool.{Bool, false}
 use mathlib.Core.List.{List}

@@ -1,4 +1,4 @@
--- A seat of an index gets another name. Assumes nothing.
+-- A seat of an index gets another name.
 use mathlib.Core.Path.{_≡_}
 use mathlib.Core.List.{List, _∷_, _++_}
 use Prim.Native.Nat.{ℕ}

@@ -1,5 +1,4 @@
 -- A notice and the switch change the head alone: the memory holds the same pages, and only what the head says is another.
--- Assumes nothing.
 use mathlib.Core.Path.{_≡_, refl, sym, ap, _∙_}
 use mathlib.Core.Bool.{Bool, true, false, cond, not, true≢false}
 use mathlib.Core.Option.{Option, none, some}

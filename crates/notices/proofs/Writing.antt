@@ -1,4 +1,4 @@
--- A record write that passes its test does what rule 12 says of the entry that the search found, or of none. Assumes nothing.
+-- A record write that passes its test does what rule 12 says of the entry that the search found, or of none.
 use mathlib.Core.Path.{_≡_, refl, ap, _∙_}
 use mathlib.Core.Option.{Option, none, some}
 use Prim.Native.Nat.{ℕ, _≤_, _<_}

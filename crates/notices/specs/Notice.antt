@@ -1,4 +1,4 @@
--- Whether the estimate follows a notice (01, rule 12). Assumes nothing.
+-- Whether the estimate follows a notice (01, rule 12).
 use mathlib.Core.Path.{_≡_}
 use mathlib.Core.Bool.{Bool, false, not}
 use mathlib.Core.List.{List}

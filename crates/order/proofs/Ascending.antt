@@ -1,5 +1,5 @@
 -- Slots by strictly ascending names: each name is below all later ones, so a name tells its slot and its place, and the
--- members alone tell the list. Assumes nothing.
+-- members alone tell the list.
 use mathlib.Core.Path.{_≡_, sym, ap, _∙_}
 use mathlib.Core.Bool.{true, false, true≢false}
 use mathlib.Core.Logic.{_⊎_, ⊎-elim}

@@ -1,5 +1,5 @@
 -- A binary search: all names before `lo` are below x and all from `hi` on are not, so where the two meet x stands, or would
--- go. Assumes nothing.
+-- go.
 use mathlib.Core.Path.{_≡_}
 use mathlib.Core.Logic.{⊎-elim}
 use mathlib.Core.List.{List}

@@ -1,5 +1,5 @@
 -- What an index says of the seats that it lists, and that it goes on listing them: a slot comes in at the gap of its name,
--- goes out from its place, or has its name written while it is no seat. Assumes nothing.
+-- goes out from its place, or has its name written while it is no seat.
 use mathlib.Core.Path.{_≡_, refl, sym, ap, _∙_, subst}
 use mathlib.Core.Bool.{Bool, true, false, _||_, true≢false}
 use mathlib.Core.List.{List, [], _∷_, _++_}

@@ -1,5 +1,4 @@
 -- What holds of each element of a list is kept where an element comes in or goes out: by recursion, element by element.
--- Assumes nothing.
 use mathlib.Core.List.{List, [], _∷_}
 use Prim.Native.Nat.{ℕ, zero, suc, _<_, zero-le, suc-le-suc}
 use native.Mathlib.Nat.{le-of-suc-le-suc, not-suc-le-zero}

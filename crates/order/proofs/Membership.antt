@@ -1,5 +1,5 @@
 -- Whether a slot is in a list, as a Bool: it is so exactly if the slot stands at a place, and an element in the middle may
--- as well stand in front. Assumes nothing.
+-- as well stand in front.
 use mathlib.Core.Path.{_≡_, refl, sym, ap, _∙_}
 use mathlib.Core.Bool.{Bool, true, false, _||_, true≢false}
 use mathlib.Core.Logic.{_⊎_, inl, inr, ⊎-elim}

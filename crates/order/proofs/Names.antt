@@ -1,5 +1,5 @@
 -- The columns of names: a name is read off its slot's entry, so a store to a slot changes that slot's name alone, and links
--- change none. Assumes nothing.
+-- change none.
 use mathlib.Core.Path.{_≡_, refl, sym}
 use mathlib.Core.List.{List}
 use Prim.Native.Nat.{ℕ, _<_}

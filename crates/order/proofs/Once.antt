@@ -1,5 +1,5 @@
 -- An index is told by what it lists: the first of an ascending list is its member of the least name, and so on down; and
--- beyond the used part all is zero. Assumes nothing.
+-- beyond the used part all is zero.
 use mathlib.Core.Path.{_≡_, refl, sym, ap, _∙_}
 use mathlib.Core.Bool.{true, false, true≢false}
 use mathlib.Core.List.{List, [], _∷_, _++_}

@@ -1,5 +1,5 @@
 -- A sorted index over a column of names, where slot s has the name `getD col s 0` (01, "Memory, pages and numbers": the
--- index lists held slots by ascending key; unused places are zero). Assumes nothing.
+-- index lists held slots by ascending key; unused places are zero).
 use mathlib.Core.Path.{_≡_}
 use mathlib.Core.List.{List, [], _∷_, _++_}
 use Prim.Native.Nat.{ℕ, suc, _+_, _-_, _≤_, _<_}

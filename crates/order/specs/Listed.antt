@@ -1,4 +1,4 @@
--- An index and the seats that it lists: the same slots, whatever their order there. Assumes nothing.
+-- An index and the seats that it lists: the same slots, whatever their order there.
 use mathlib.Core.Path.{_≡_}
 use mathlib.Core.Bool.{true}
 use mathlib.Core.List.{List, _∷_, _++_}

@@ -1,4 +1,4 @@
--- The names that an index goes by (01, "Memory, pages and numbers": by ascending key; and the same by handle). Assumes nothing.
+-- The names that an index goes by (01, "Memory, pages and numbers": by ascending key; and the same by handle).
 use mathlib.Core.List.{List, map}
 use Prim.Native.Nat.{ℕ}
 use Rattle.page.specs.declared.entry.PageCacheEntry.{PageCacheEntry}

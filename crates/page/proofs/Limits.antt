@@ -1,4 +1,4 @@
--- What follows from the definitions alone: 01's examples of the threshold, and the range of use counts. Assumes nothing.
+-- What follows from the definitions alone: 01's examples of the threshold, and the range of use counts.
 use mathlib.Core.List.{[], _∷_, map}
 use mathlib.Core.Path.{_≡_, refl}
 use Prim.Native.Nat.{ℕ, _≤_}

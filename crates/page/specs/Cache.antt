@@ -1,5 +1,4 @@
 -- The head of a cache, its limits, and its rules for a single page (01, demand 3 and rules 1, 12, 13 and 14).
--- Assumes nothing.
 use mathlib.Core.Bool.{Bool, not, _&&_}
 use Prim.Native.Nat.{ℕ, _*_, _/_, max}
 use lib.Dec.{eqb}

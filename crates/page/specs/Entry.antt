@@ -1,4 +1,4 @@
--- The entry of a held page, and its use count (01, rules 1 to 3). Assumes nothing.
+-- The entry of a held page, and its use count (01, rules 1 to 3).
 use Prim.Native.Nat.{ℕ, _+_, _-_, min}
 use Rattle.page.specs.declared.entry.PageCacheEntry.{PageCacheEntry}
 use Rattle.page.specs.declared.names.PageCacheKey.{PageCacheKey}

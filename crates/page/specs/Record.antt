@@ -1,4 +1,4 @@
--- What a page record says of its page (01, "Memory, pages and numbers", and rules 6, 8 and 9). Assumes nothing.
+-- What a page record says of its page (01, "Memory, pages and numbers", and rules 6, 8 and 9).
 use mathlib.Core.Bool.{Bool, cond, not, _&&_, _||_}
 use Prim.Native.Nat.{ℕ}
 use lib.Bits.{bitAnd}

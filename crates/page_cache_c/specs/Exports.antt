@@ -1,4 +1,4 @@
--- What the exported functions do. Each case says the code and all that was lent, after it. Assumes nothing.
+-- What the exported functions do. Each case says the code and all that was lent, after it.
 use mathlib.Core.Path.{_≡_}
 use mathlib.Core.List.{List}
 use Prim.Native.Nat.{ℕ}

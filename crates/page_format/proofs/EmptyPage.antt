@@ -1,4 +1,4 @@
--- There are pages of which a check says yes: the root page of a table that has no rows. Assumes nothing.
+-- There are pages of which a check says yes: the root page of a table that has no rows.
 use mathlib.Core.Path.{refl}
 use mathlib.Core.List.{List, _∷_}
 use Prim.Native.Nat.{ℕ}

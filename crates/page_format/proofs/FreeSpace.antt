@@ -1,5 +1,4 @@
--- The blocks of a chain that has no bad one don't overlap, so that their sizes add up to no more than there is room for. Assumes
--- nothing.
+-- The blocks of a chain that has no bad one don't overlap, so that their sizes add up to no more than there is room for.
 use mathlib.Core.List.{List}
 use Prim.Native.Nat.{ℕ, _+_, _-_, _≤_}
 use native.Mathlib.Omega.{arith}

@@ -1,4 +1,4 @@
--- One rule more that holds, after those before it. Assumes nothing.
+-- One rule more that holds, after those before it.
 use mathlib.Core.List.{List, [], _∷_}
 use Prim.Native.Nat.{ℕ, zero, suc, _<_}
 use native.Mathlib.Omega.{arith}

@@ -1,4 +1,4 @@
--- A search looks at one thing after another, until one is not fine or all have been looked at. Assumes nothing.
+-- A search looks at one thing after another, until one is not fine or all have been looked at.
 use mathlib.Core.Path.{_≡_, subst}
 use Prim.Native.Nat.{ℕ, _+_, _≤_, _<_}
 use native.Mathlib.Omega.{arith}

@@ -1,4 +1,4 @@
--- A page, and the fields of a b-tree page's header, from the document's sections 1.3 and 1.6. Assumes nothing.
+-- A page, and the fields of a b-tree page's header, from the document's sections 1.3 and 1.6.
 use mathlib.Core.Bool.{Bool, cond, _||_}
 use mathlib.Core.List.{List, [], _∷_}
 use Prim.Native.Nat.{ℕ, _+_, _*_, _-_}

@@ -1,4 +1,4 @@
--- The rules of item 9 in the order of the document's fields, and what a check says of a page. Assumes nothing.
+-- The rules of item 9 in the order of the document's fields, and what a check says of a page.
 use mathlib.Core.Path.{_≡_}
 use mathlib.Core.Bool.{true}
 use mathlib.Core.List.{List, [], _∷_}

@@ -1,4 +1,4 @@
--- The tests of the header's fields, of the chain and of the pointers, in the order in which they are made. Assumes nothing.
+-- The tests of the header's fields, of the chain and of the pointers, in the order in which they are made.
 use mathlib.Core.Path.{_≡_, sym, ap, _∙_}
 use mathlib.Core.Bool.{true, false, true≢false}
 use mathlib.Core.List.{List}

@@ -1,4 +1,4 @@
--- The tests of the sizes and of the first bytes, in the order in which they are made. Assumes nothing.
+-- The tests of the sizes and of the first bytes, in the order in which they are made.
 use mathlib.Core.Path.{_≡_, refl, sym, subst, _∙_}
 use mathlib.Core.Bool.{true, false, true≢false}
 use mathlib.Core.List.{List}

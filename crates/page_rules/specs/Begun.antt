@@ -1,4 +1,4 @@
--- What the tests of a page's fields may rely on. Assumes nothing.
+-- What the tests of a page's fields may rely on.
 use mathlib.Core.List.{List}
 use Prim.Native.Nat.{ℕ, _-_, _≤_}
 use lib.ListN.{length, take}

@@ -1,4 +1,4 @@
--- Of the eight sizes 512 is the smallest and 65,536 the largest. Assumes nothing.
+-- Of the eight sizes 512 is the smallest and 65,536 the largest.
 use mathlib.Core.Path.{_≡_, sym, _∙_}
 use mathlib.Core.Bool.{true, false, true≢false}
 use Prim.Native.Nat.{ℕ, _≤_, _<_}

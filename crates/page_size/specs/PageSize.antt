@@ -1,4 +1,4 @@
--- The sizes of pages, from the document's section 1.2. Assumes nothing.
+-- The sizes of pages, from the document's section 1.2.
 use mathlib.Core.Bool.{Bool, _||_}
 use Prim.Native.Nat.{ℕ}
 use lib.Dec.{eqb}

@@ -1,5 +1,5 @@
 -- Packing is a bijection: the fields of a word lie side by side, so that a quotient cuts off those below a field and a
--- remainder those above it. Assumes nothing.
+-- remainder those above it.
 use mathlib.Core.Path.{_≡_, refl, sym, ap, _∙_}
 use mathlib.Core.Bool.{_&&_}
 use mathlib.Core.List.{List, [], _∷_}

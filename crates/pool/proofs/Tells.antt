@@ -1,5 +1,4 @@
 -- Answers of tests: made, carried over to another question, and joined. Each law is by cases on the answer.
--- Assumes nothing.
 use mathlib.Core.Path.{_≡_, refl, sym, _∙_}
 use mathlib.Core.Bool.{Bool, true, false, not, _&&_, true≢false}
 use Prim.Native.Nat.{ℕ}

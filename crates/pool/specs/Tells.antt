@@ -1,4 +1,4 @@
--- What a test's answer says. Assumes nothing.
+-- What a test's answer says.
 use mathlib.Core.Path.{_≡_}
 use mathlib.Core.Bool.{Bool, true}
 

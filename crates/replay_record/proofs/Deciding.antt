@@ -1,4 +1,4 @@
--- The tests in the order in which they are made come to what the bytes say, and so do the fields. Assumes nothing.
+-- The tests in the order in which they are made come to what the bytes say, and so do the fields.
 use mathlib.Core.Path.{_≡_, refl, sym, ap, _∙_}
 use mathlib.Core.Bool.{Bool, true, false}
 use mathlib.Core.List.{List}

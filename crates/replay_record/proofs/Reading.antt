@@ -1,5 +1,5 @@
 -- A number is read from its highest byte down: what was read is the number of the bytes from there on, and each byte more is
--- one more digit to the base 256. Assumes nothing.
+-- one more digit to the base 256.
 use mathlib.Core.Path.{_≡_, refl, sym, ap, subst, _∙_}
 use mathlib.Core.List.{List}
 use Prim.Native.Nat.{ℕ, zero, suc, _+_, _*_, _-_, _^_, _≤_, _<_}

@@ -1,4 +1,4 @@
--- The 32 bytes of a replay record, field by field (01, "The replay program"). Assumes nothing.
+-- The 32 bytes of a replay record, field by field (01, "The replay program").
 use mathlib.Core.Path.{_≡_}
 use mathlib.Core.Bool.{Bool, cond, not, _||_}
 use mathlib.Core.List.{List}

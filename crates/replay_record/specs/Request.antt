@@ -1,4 +1,4 @@
--- What a replay record asks for (01, "The replay program"). Assumes nothing.
+-- What a replay record asks for (01, "The replay program").
 use mathlib.Core.List.{List, [], _∷_}
 use Prim.Native.Nat.{ℕ}
 use lib.ListN.{getD}

@@ -1,5 +1,4 @@
 -- One eviction that is asked for comes to the model's: with nothing held there is none, and otherwise it is one sweep.
--- Assumes nothing.
 use mathlib.Core.Path.{_≡_, refl, sym, ap, _∙_}
 use mathlib.Core.Bool.{true, false}
 use mathlib.Core.List.{List, [], _∷_}

@@ -1,4 +1,4 @@
--- Evictions and the answer after them: the handles that went are what the call lists. Assumes nothing.
+-- Evictions and the answer after them: the handles that went are what the call lists.
 use mathlib.Core.Path.{sym, _∙_, subst}
 use mathlib.Core.List.{List, append-nil}
 use Prim.Native.Nat.{ℕ}

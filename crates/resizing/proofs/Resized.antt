@@ -1,5 +1,4 @@
 -- A resize comes to the model's: the evictions are the model's (crate eviction), and no page changes with the capacity.
--- Assumes nothing.
 use mathlib.Core.Path.{_≡_, refl, sym, ap, _∙_}
 use mathlib.Core.Bool.{Bool, true, false}
 use mathlib.Core.List.{List}

@@ -1,4 +1,4 @@
--- Another capacity (01, rule 10). Assumes nothing.
+-- Another capacity (01, rule 10).
 use mathlib.Core.Bool.{Bool, true, false}
 use mathlib.Core.List.{List}
 use Prim.Native.Nat.{ℕ, _≤_}

@@ -1,6 +1,6 @@
 -- A column of the entries after a store: a store changes one place of each column, and keeps every column that does not
 -- read what it changed. So the links change as the laws of rings have it, and all else only where an entry comes or
--- goes. Assumes nothing.
+-- goes.
 use mathlib.Core.Path.{_≡_, refl, ap, _∙_}
 use mathlib.Core.List.{List, [], _∷_, _++_, map}
 use Prim.Native.Nat.{ℕ, zero, suc, _<_}

@@ -1,5 +1,5 @@
 -- A ring turns, takes a slot in and lets one go: a store outside a way keeps the way, and any slot of a ring can be
--- turned to the front, so that each change is made there. Assumes nothing.
+-- turned to the front, so that each change is made there.
 use mathlib.Core.Path.{_≡_, refl, sym, ap, _∙_}
 use mathlib.Core.Logic.{_⊎_, inl, inr, ⊎-elim}
 use mathlib.Core.List.{List, [], _∷_, _++_, append-assoc, append-nil}

@@ -1,5 +1,5 @@
 -- The links determine the row and the row the links: a way goes on as its links say, and a slot that the row does not
--- have has links of zero. Assumes nothing.
+-- have has links of zero.
 use mathlib.Core.Path.{_≡_, refl, sym, ap, _∙_, subst}
 use mathlib.Core.Bool.{Bool, true, false, _||_}
 use mathlib.Core.Logic.{_⊎_, inl, inr, ⊎-elim}

@@ -1,5 +1,4 @@
 -- The links of the entries, and what linking and unlinking a slot does to the entries (01, "Ring rules" 1 and 4).
--- Assumes nothing.
 use mathlib.Core.Path.{_≡_}
 use mathlib.Core.List.{List, map}
 use Prim.Native.Nat.{ℕ, _<_}

@@ -1,5 +1,5 @@
 -- A ring of slots in two columns of links, and the row of its slots in the order of a sweep (01, "held slots form one
--- ring whose next and previous links are inverse"). Assumes nothing.
+-- ring whose next and previous links are inverse").
 use mathlib.Core.Path.{_≡_}
 use mathlib.Core.Bool.{Bool, false, _||_}
 use mathlib.Core.List.{List, [], _∷_}

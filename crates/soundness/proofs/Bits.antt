@@ -1,5 +1,5 @@
 -- A mark is a digit of its word, 0 or 1. The marks beyond the last slot are the upper digits of the last word, and they
--- are all zero exactly if nothing is left of the word once it is shifted down past the others. Assumes nothing.
+-- are all zero exactly if nothing is left of the word once it is shifted down past the others.
 use mathlib.Core.Path.{_≡_, sym, ap, _∙_}
 use mathlib.Core.Bool.{Bool, true, false, true≢false}
 use mathlib.Core.List.{List}

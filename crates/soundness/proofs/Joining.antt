@@ -1,6 +1,6 @@
 -- The passes together say that the memory is sound, and no less. The ring's slots and each index's are as many different
 -- unmarked slots as are held, and there are no more unmarked slots: so each of the three is exactly the unmarked slots.
--- The other way, each pass reads its answer off what the memory holds. Assumes nothing.
+-- The other way, each pass reads its answer off what the memory holds.
 use mathlib.Core.Path.{_≡_, refl, sym, ap, _∙_, subst}
 use mathlib.Core.Bool.{Bool, true, false, cond, true≢false}
 use mathlib.Core.Logic.{⊎-elim}

@@ -1,4 +1,4 @@
--- A pass over an index carries the least name that may come next: one more than the last. Assumes nothing.
+-- A pass over an index carries the least name that may come next: one more than the last.
 use mathlib.Core.Path.{_≡_, refl, sym}
 use mathlib.Core.Bool.{Bool, true, false}
 use mathlib.Core.Logic.{⊎-elim}

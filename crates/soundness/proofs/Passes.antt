@@ -1,5 +1,5 @@
 -- A loop that looks at one number after another knows that all it has passed are good: it says no at the first that is
--- not, and yes at the end. Assumes nothing.
+-- not, and yes at the end.
 use mathlib.Core.Path.{_≡_}
 use mathlib.Core.Bool.{true, false}
 use mathlib.Core.Logic.{_⊎_, inl, inr, ⊎-elim}

@@ -1,6 +1,6 @@
 -- A walk by `next` that is back at its start no sooner than at its end meets no slot twice: were a slot met again, so
 -- would be the one that follows it, and in the end the start. So the loop need only follow the links and count; what it
--- still has to show is that the rest of the way is there. Assumes nothing.
+-- still has to show is that the rest of the way is there.
 use mathlib.Core.Path.{_≡_, refl, sym, ap, _∙_}
 use mathlib.Core.Bool.{Bool, true, false}
 use mathlib.Core.List.{List, [], _∷_}

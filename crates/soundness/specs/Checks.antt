@@ -1,5 +1,5 @@
 -- What each pass of the soundness test finds out. `Checked` is all of it, and comes to the same as `Sound`
--- (proofs/Joining.antt). Assumes nothing.
+-- (proofs/Joining.antt).
 use mathlib.Core.Path.{_≡_}
 use mathlib.Core.Bool.{Bool, true, false}
 use mathlib.Core.List.{List}

@@ -1,5 +1,5 @@
 -- The three answers to a spill are the outcome's: 18 if none is needed, 19 if nothing is selected, and else the number and the
--- handles; the memory is as it was. Assumes nothing.
+-- handles; the memory is as it was.
 use mathlib.Core.Path.{_≡_, refl, sym, ap, _∙_, subst}
 use mathlib.Core.Bool.{Bool, true, false}
 use mathlib.Core.List.{List, [], _∷_, _++_, map, append-nil}

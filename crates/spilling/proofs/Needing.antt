@@ -1,4 +1,4 @@
--- The tests of rule 13 can be read off the head, save the last: the head has the cache's numbers. Assumes nothing.
+-- The tests of rule 13 can be read off the head, save the last: the head has the cache's numbers.
 use mathlib.Core.Path.{_≡_, refl, sym, ap, _∙_}
 use mathlib.Core.Bool.{Bool, true, false, not, cond, _&&_, _||_, true≢false}
 use Prim.Native.Nat.{ℕ, _+_, _-_, _≤_, _<_}

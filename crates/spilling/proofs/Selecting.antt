@@ -1,5 +1,5 @@
 -- What a walk has listed are the handles of the pages that it met and may be spilled; once there are enough of them, or the walk
--- has met every page, they are the selection. Assumes nothing.
+-- has met every page, they are the selection.
 use mathlib.Core.Path.{_≡_, refl, sym, ap, _∙_}
 use mathlib.Core.Bool.{true, false}
 use mathlib.Core.List.{List, [], _∷_, _++_, map, map-append, append-assoc}

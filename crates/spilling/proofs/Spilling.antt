@@ -1,4 +1,4 @@
--- A spill that is lent a list long enough does what rules 13 and 14 say, and one that is not is refused. Assumes nothing.
+-- A spill that is lent a list long enough does what rules 13 and 14 say, and one that is not is refused.
 use mathlib.Core.List.{List}
 use mathlib.Core.Path.{refl}
 use Prim.Native.Nat.{ℕ, _≤_, _<_}

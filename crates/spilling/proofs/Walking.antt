@@ -1,5 +1,5 @@
 -- A loop over the index meets the pages of the walk over keys one after another, and so counts those that are so. It stays
--- within the index, and at its end it has met every page. Assumes nothing.
+-- within the index, and at its end it has met every page.
 use mathlib.Core.Path.{_≡_, sym, ap, _∙_}
 use mathlib.Core.Bool.{Bool, true, false}
 use mathlib.Core.List.{List, [], _∷_}

@@ -1,4 +1,4 @@
--- The two parts of the memory that a spill reads, and what is selected from them. Assumes nothing.
+-- The two parts of the memory that a spill reads, and what is selected from them.
 use mathlib.Core.Path.{_≡_}
 use mathlib.Core.List.{List, map}
 use Prim.Native.Nat.{ℕ, _≤_, _<_}

@@ -1,4 +1,4 @@
--- A number of 64 bits has at most twenty decimal digits, since one of more is at least 10 ^ 20. Assumes nothing.
+-- A number of 64 bits has at most twenty decimal digits, since one of more is at least 10 ^ 20.
 use Prim.Native.Nat.{ℕ, _-_, _^_, _≤_, _<_}
 use native.Mathlib.Nat.{pow-le-pow-right}
 use native.Mathlib.Decide.{decLt}

@@ -1,5 +1,5 @@
 -- A place of the index by key: the entry there stands in the row, under its key. Once it has gone, the entry that stood at
--- the next place stands at this one. Assumes nothing.
+-- the next place stands at this one.
 use mathlib.Core.Path.{_≡_, refl, sym, ap, _∙_}
 use mathlib.Core.List.{List, _∷_, _++_}
 use Prim.Native.Nat.{ℕ, _+_, _≤_, _<_}

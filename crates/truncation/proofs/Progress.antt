@@ -1,5 +1,5 @@
 -- The loop of the sweeping deletions: what was deleted and what is left come together to the whole, and the list has a place
--- for every page that is still held. Assumes nothing.
+-- for every page that is still held.
 use mathlib.Core.Path.{_≡_, refl, sym, ap, _∙_, subst}
 use mathlib.Core.Bool.{true, false}
 use mathlib.Core.List.{List, [], _∷_, _++_, append-nil}

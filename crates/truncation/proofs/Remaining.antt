@@ -1,5 +1,5 @@
 -- What is left of the sweeping deletions at a place of the walk, and what it comes to. A page that is passed is not among
--- the chosen ones, and a deletion leaves the rest of the walk as it is. Assumes nothing.
+-- the chosen ones, and a deletion leaves the rest of the walk as it is.
 use mathlib.Core.Path.{_≡_, refl, sym, ap, _∙_}
 use mathlib.Core.Bool.{Bool, true, false}
 use mathlib.Core.List.{List, [], _∷_, _++_, append-assoc}

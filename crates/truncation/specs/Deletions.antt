@@ -1,4 +1,4 @@
--- The sweeping deletions (01, rule 11). Assumes nothing.
+-- The sweeping deletions (01, rule 11).
 use mathlib.Core.Path.{_≡_}
 use mathlib.Core.Bool.{Bool, false}
 use mathlib.Core.List.{List}

@@ -1,5 +1,5 @@
 -- A search that goes down: the last of some frames that holds the page is the topmost, if that one does, and otherwise the
--- last of those below it that does. Assumes nothing.
+-- last of those below it that does.
 use mathlib.Core.Path.{_≡_, refl, sym, ap, _∙_}
 use mathlib.Core.Bool.{Bool, true, false, cond}
 use mathlib.Core.List.{List}

@@ -1,5 +1,5 @@
 -- Two lists that are filled frame by frame: the stores of the frames that are left make the lists that all stores make, and
--- when none is left they are those lists. Assumes nothing.
+-- when none is left they are those lists.
 use mathlib.Core.Path.{_≡_, refl, sym, ap, _∙_}
 use mathlib.Core.Bool.{Bool, true, false, _||_}
 use mathlib.Core.List.{List, map}

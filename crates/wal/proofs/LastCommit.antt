@@ -1,5 +1,5 @@
 -- The last commit of a log's own summary is the last valid frame that has a size: no valid frame after it has one. Each
--- frame that the scan counts keeps that true. Assumes nothing.
+-- frame that the scan counts keeps that true.
 use mathlib.Core.Path.{_≡_, refl, ap, _∙_, subst}
 use mathlib.Core.Bool.{Bool, true, false, cond}
 use mathlib.Core.List.{List, [], _∷_, _++_, append-assoc, append-nil}

@@ -1,6 +1,6 @@
 -- A log's own summary: the valid frames stand one after another from byte 32 on, and the summary counts them. So with the
 -- summary that a scan gave, all valid frames are listed, and a page is looked for in those up to the last commit; that the
--- summary is of another log is never the answer. Assumes nothing.
+-- summary is of another log is never the answer.
 use mathlib.Core.Path.{_≡_, refl, sym, ap, _∙_, subst}
 use mathlib.Core.Bool.{Bool, true, false, cond, _||_}
 use mathlib.Core.List.{List, [], _∷_, _++_, map}

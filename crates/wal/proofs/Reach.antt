@@ -1,5 +1,4 @@
 -- So many frames lie within a log if there are no more of them than the quotient of what follows the header by their length.
--- Assumes nothing.
 use mathlib.Core.Path.{_≡_, refl, sym, _∙_}
 use mathlib.Core.Bool.{Bool, true, false}
 use mathlib.Core.List.{List}

@@ -1,7 +1,7 @@
 -- The document's section 4.5, word by word, with the summary that a scan gave: 'the last valid instance of page P that is
 -- followed by a commit frame or is a commit frame itself becomes the value read. If the WAL contains no copies of page P that
 -- are valid and which are a commit frame or are followed by a commit frame, then page P is read from the database file.'
--- For the frames up to the last commit are exactly those that are commits or are followed by one. Assumes nothing.
+-- For the frames up to the last commit are exactly those that are commits or are followed by one.
 use mathlib.Core.Path.{_≡_, refl, sym, ap, _∙_, subst}
 use mathlib.Core.Bool.{Bool, true, false, cond}
 use mathlib.Core.List.{List, [], _∷_, _++_, append-assoc}

@@ -1,4 +1,4 @@
--- The committed part of a log, in the words of the document's section 4.5. Assumes nothing.
+-- The committed part of a log, in the words of the document's section 4.5.
 use mathlib.Core.Path.{_≡_}
 use mathlib.Core.List.{List, [], _∷_, _++_}
 use mathlib.Core.Logic.{_⊎_}

@@ -1,5 +1,5 @@
 -- Reading a log with the summary that a scan gave: the newest committed copy of a page (the document's section 4.5), and the
--- list of all frames. A summary whose frames reach past the end of the log is of another log. Assumes nothing.
+-- list of all frames. A summary whose frames reach past the end of the log is of another log.
 use mathlib.Core.Bool.{Bool, cond, _||_}
 use mathlib.Core.List.{List, [], _∷_, _++_, map}
 use mathlib.Core.Path.{_≡_}

@@ -1,4 +1,4 @@
--- Numbers and sums depend on the bytes that they are read from and on no others. Assumes nothing.
+-- Numbers and sums depend on the bytes that they are read from and on no others.
 use mathlib.Core.Path.{_≡_, refl}
 use mathlib.Core.Bool.{Bool, true, false}
 use mathlib.Core.List.{List}

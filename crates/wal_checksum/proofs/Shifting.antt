@@ -1,4 +1,4 @@
--- A part of a log has the numbers and sums that the log has from the part's place on. Assumes nothing.
+-- A part of a log has the numbers and sums that the log has from the part's place on.
 use mathlib.Core.Path.{_≡_, refl}
 use mathlib.Core.Bool.{Bool, true, false}
 use mathlib.Core.List.{List}

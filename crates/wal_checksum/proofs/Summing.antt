@@ -1,4 +1,4 @@
--- The loop sums one pair at each turn: what is still to be summed, from the sums so far, comes to the whole. Assumes nothing.
+-- The loop sums one pair at each turn: what is still to be summed, from the sums so far, comes to the whole.
 use mathlib.Core.Path.{_≡_}
 use mathlib.Core.Bool.{Bool}
 use mathlib.Core.List.{List}

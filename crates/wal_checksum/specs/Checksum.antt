@@ -1,4 +1,4 @@
--- Numbers and sums of the write-ahead log, from the document's sections 4.1 and 4.2. Assumes nothing.
+-- Numbers and sums of the write-ahead log, from the document's sections 4.1 and 4.2.
 use mathlib.Core.Bool.{Bool, cond, _&&_}
 use mathlib.Core.List.{List}
 use Prim.Native.Nat.{ℕ, zero, suc, _+_, _*_, _%_, _^_}

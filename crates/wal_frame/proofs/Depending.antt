@@ -1,4 +1,4 @@
--- A frame depends on the log's bytes from its first to its last and on no others. Assumes nothing.
+-- A frame depends on the log's bytes from its first to its last and on no others.
 use mathlib.Core.Path.{_≡_, _∙_}
 use mathlib.Core.List.{List}
 use Prim.Native.Nat.{ℕ, _+_, _-_, _≤_}

@@ -1,4 +1,4 @@
--- The tests of a frame, in the order in which they are made, come to whether it is valid. Assumes nothing.
+-- The tests of a frame, in the order in which they are made, come to whether it is valid.
 use mathlib.Core.Path.{_≡_, refl, sym, _∙_}
 use mathlib.Core.Bool.{Bool, true, false, not, _&&_}
 use mathlib.Core.List.{List}

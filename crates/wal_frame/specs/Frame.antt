@@ -1,4 +1,4 @@
--- A frame, from the document's sections 4.1 and 4.2 and item 2. Assumes nothing.
+-- A frame, from the document's sections 4.1 and 4.2 and item 2.
 use mathlib.Core.Bool.{Bool, cond, _&&_}
 use mathlib.Core.List.{List}
 use Prim.Native.Nat.{ℕ, _+_, _/_}

@@ -1,4 +1,4 @@
--- The definition gives what the table of examples says, by computing. Assumes nothing.
+-- The definition gives what the table of examples says, by computing.
 use mathlib.Core.Path.{_≡_, refl}
 use mathlib.Core.List.{map}
 use Rattle.wal_checksum.specs.Checksum.{bigEndian, littleEndian, paired, checksum}

@@ -1,4 +1,4 @@
--- The tests of a header, in the order in which they are made, come to the first fault that it has. Assumes nothing.
+-- The tests of a header, in the order in which they are made, come to the first fault that it has.
 use mathlib.Core.Path.{_≡_, refl, sym, ap, _∙_}
 use mathlib.Core.Bool.{Bool, true, false, cond}
 use mathlib.Core.List.{List}

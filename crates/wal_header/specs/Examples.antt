@@ -1,4 +1,4 @@
--- A header that sqlite3 wrote, and each fault that a change of it makes. Assumes nothing.
+-- A header that sqlite3 wrote, and each fault that a change of it makes.
 use mathlib.Core.Bool.{false}
 use mathlib.Core.List.{List, [], _∷_}
 use Prim.Native.Nat.{ℕ}

@@ -1,4 +1,4 @@
--- The header of a log, from the document's section 4.1 and item 2. Assumes nothing.
+-- The header of a log, from the document's section 4.1 and item 2.
 use mathlib.Core.Bool.{Bool, cond, not, _||_}
 use mathlib.Core.List.{List}
 use Prim.Native.Nat.{ℕ}

@@ -1,4 +1,4 @@
--- The counts stay below the offset, and that below the longest file's: one frame more can be counted. Assumes nothing.
+-- The counts stay below the offset, and that below the longest file's: one frame more can be counted.
 use mathlib.Core.Path.{_≡_, refl, sym, ap, subst}
 use mathlib.Core.Bool.{Bool, true, false, cond}
 use Prim.Native.Nat.{ℕ, _+_, _-_, _≤_, _<_}

@@ -1,4 +1,4 @@
--- A header is opened only with a page size that is one of the eight, of which 65,536 is the largest. Assumes nothing.
+-- A header is opened only with a page size that is one of the eight, of which 65,536 is the largest.
 use mathlib.Core.Path.{_≡_, refl, ap}
 use mathlib.Core.Bool.{Bool, true, false, not, cond}
 use mathlib.Core.List.{List}

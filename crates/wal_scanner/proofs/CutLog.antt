@@ -1,6 +1,6 @@
 -- A frame depends on the log's bytes up to its own end and on no others. So a log that is cut at any byte after its header keeps
 -- exactly the valid frames that lie wholly before the cut, what comes after the first bad frame does not matter, and a log that
--- grows keeps its frames. Assumes nothing.
+-- grows keeps its frames.
 use mathlib.Core.Path.{_≡_, refl, sym, ap, _∙_}
 use mathlib.Core.Bool.{Bool, true, false}
 use mathlib.Core.List.{List, [], _∷_, _++_}

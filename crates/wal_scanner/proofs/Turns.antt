@@ -1,5 +1,5 @@
 -- Each look counts one valid frame more, and the first bad one ends the scan: what was counted, with the frames still to come, is
--- the whole. Assumes nothing.
+-- the whole.
 use mathlib.Core.Path.{_≡_, refl, sym, ap, subst, _∙_}
 use mathlib.Core.Bool.{Bool, true, false, cond}
 use mathlib.Core.List.{List, []}

@@ -1,4 +1,4 @@
--- The scan of a log, from the document's sections 4.1 and 4.2 and item 2. Assumes nothing.
+-- The scan of a log, from the document's sections 4.1 and 4.2 and item 2.
 use mathlib.Core.Path.{_≡_}
 use mathlib.Core.Bool.{Bool, cond}
 use mathlib.Core.List.{List, [], _∷_}

@@ -1,4 +1,4 @@
--- Bytes that are bad, memory that is not sound, and else what the record asks for. Assumes nothing.
+-- Bytes that are bad, memory that is not sound, and else what the record asks for.
 use borrow.Author.Needs.{needs}
 use native.Mathlib.Omega.{arith}
 use mathlib.Core.Path.{refl, sym, _∙_}

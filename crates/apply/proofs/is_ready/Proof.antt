@@ -1,4 +1,4 @@
--- Calls are tested, and nothing else asks for sound memory. Assumes nothing.
+-- Calls are tested, and nothing else asks for sound memory.
 use borrow.Author.Needs.{needs}
 use Rattle.apply.proofs.Applying.{outside, inside, ready-else, ready-call}
 use Rattle.apply.proofs.is_ready.Statement.{statement}

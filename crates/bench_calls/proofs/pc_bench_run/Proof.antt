@@ -1,4 +1,4 @@
--- The memory is tested, and then each record finds it sound. Assumes nothing.
+-- The memory is tested, and then each record finds it sound.
 use borrow.Author.Needs.{needs}
 use Rattle.pool.proofs.Tells.{passes}
 use Rattle.bench_calls.proofs.pc_bench_run.Statement.{statement}

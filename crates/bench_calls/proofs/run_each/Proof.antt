@@ -1,4 +1,4 @@
--- Each turn is a record, and the next one finds sound memory. The measure is the number of records left. Assumes nothing.
+-- Each turn is a record, and the next one finds sound memory. The measure is the number of records left.
 use native.Mathlib.Omega.{arith}
 use borrow.Author.Needs.{needs}
 use mathlib.Core.Path.{refl, _∙_}

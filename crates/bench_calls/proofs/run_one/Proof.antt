@@ -1,4 +1,4 @@
--- Whatever the record asks for, sound memory stays sound. Assumes nothing.
+-- Whatever the record asks for, sound memory stays sound.
 use borrow.Author.Needs.{needs}
 use Rattle.bench_calls.proofs.Running.{ran-sound}
 use Rattle.bench_calls.proofs.run_one.Statement.{statement}

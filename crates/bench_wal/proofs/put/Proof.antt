@@ -1,4 +1,4 @@
--- Seven numbers have seven places, and a store leaves the length as it is. Assumes nothing.
+-- Seven numbers have seven places, and a store leaves the length as it is.
 use native.Mathlib.Omega.{arith}
 use lib.ListN.{length-set}
 use borrow.Author.Needs.{needs}

@@ -1,4 +1,4 @@
--- The pointers are looked at one after another, each by one test (proofs/Wrapping.antt). Assumes nothing.
+-- The pointers are looked at one after another, each by one test (proofs/Wrapping.antt).
 use mathlib.Core.Path.{_≡_, ap, _∙_}
 use Prim.Native.Nat.{ℕ, _+_, _*_, _-_}
 use borrow.Author.Needs.{needs}

@@ -1,4 +1,4 @@
--- The walk goes on until the chain ends or is bad (proofs/Walking.antt). Assumes nothing.
+-- The walk goes on until the chain ends or is bad (proofs/Walking.antt).
 use Prim.Native.Nat.{_-_}
 use borrow.Author.Needs.{needs}
 use native.Mathlib.Omega.{arith}

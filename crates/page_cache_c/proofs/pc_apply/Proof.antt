@@ -1,4 +1,4 @@
--- The bytes are applied with the head that was read, and head and answer are written as that says. Assumes nothing.
+-- The bytes are applied with the head that was read, and head and answer are written as that says.
 use mathlib.Core.Path.{refl}
 use borrow.Author.Needs.{needs}
 use Rattle.page_cache_c.specs.Exports.{unapplied}

@@ -1,4 +1,4 @@
--- The head is written as the creation says. Assumes nothing.
+-- The head is written as the creation says.
 use mathlib.Core.Path.{refl}
 use borrow.Author.Needs.{needs}
 use Rattle.page_cache_c.specs.Exports.{unmade, makes}

@@ -1,4 +1,4 @@
--- The test tells what is sound. Assumes nothing.
+-- The test tells what is sound.
 use mathlib.Core.Path.{refl}
 use borrow.Author.Needs.{needs}
 use Rattle.page_cache_c.specs.Exports.{untested}

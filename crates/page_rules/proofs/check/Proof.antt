@@ -1,4 +1,4 @@
--- A test for each rule of the sizes and of the first bytes (proofs/SizeTests.antt), and then those of the fields. Assumes nothing.
+-- A test for each rule of the sizes and of the first bytes (proofs/SizeTests.antt), and then those of the fields.
 use mathlib.Core.Path.{_≡_, sym, _∙_}
 use mathlib.Core.Bool.{true}
 use Prim.Native.Nat.{_+_, _-_, _≤_}

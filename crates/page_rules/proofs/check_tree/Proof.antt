@@ -1,4 +1,4 @@
--- A test for each rule of the fields, in order (proofs/FieldTests.antt). Assumes nothing.
+-- A test for each rule of the fields, in order (proofs/FieldTests.antt).
 use mathlib.Core.Path.{_≡_, sym, subst, _∙_}
 use mathlib.Core.Bool.{true}
 use lib.ListN.{getD}

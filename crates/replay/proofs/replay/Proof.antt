@@ -1,4 +1,4 @@
--- Each block uses up a turn. Assumes nothing.
+-- Each block uses up a turn.
 use Prim.Native.Nat.{_-_}
 use borrow.Author.Needs.{needs}
 use Rattle.replay.proofs.replay.Statement.{statement}

@@ -1,4 +1,4 @@
--- Each arm has its number. Assumes nothing.
+-- Each arm has its number.
 use borrow.Author.Needs.{needs}
 use Rattle.answer.proofs.numbers.code_of.Statement.{statement}
 use Rattle.answer.proofs.numbers.code_of.Tie as tie

@@ -1,4 +1,4 @@
--- Each arm has its value. Assumes nothing.
+-- Each arm has its value.
 use borrow.Author.Needs.{needs}
 use Rattle.answer.proofs.numbers.value_of.Statement.{statement}
 use Rattle.answer.proofs.numbers.value_of.Tie as tie

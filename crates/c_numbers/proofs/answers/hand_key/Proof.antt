@@ -1,4 +1,4 @@
--- Each return is after the tests that its answer follows from. Assumes nothing.
+-- Each return is after the tests that its answer follows from.
 use borrow.Author.Needs.{needs}
 use Rattle.c_numbers.proofs.Numbers.{nothing-held, no-slot, a-slot, quarter}
 use Rattle.c_numbers.proofs.answers.hand_key.Statement.{statement}

@@ -1,4 +1,4 @@
--- Every place is stored, each with its part of the answer. Assumes nothing.
+-- Every place is stored, each with its part of the answer.
 use native.Mathlib.Omega.{arith}
 use lib.ListN.{length-set}
 use borrow.Author.Needs.{needs}

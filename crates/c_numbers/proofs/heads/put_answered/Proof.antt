@@ -1,4 +1,4 @@
--- The test whether to write is the one that the definition makes. Assumes nothing.
+-- The test whether to write is the one that the definition makes.
 use borrow.Author.Needs.{needs}
 use mathlib.Core.Path.{_∙_}
 use Rattle.c_numbers.proofs.Numbers.{written, kept}

@@ -1,4 +1,4 @@
--- The head is written after a creation that is done. Assumes nothing.
+-- The head is written after a creation that is done.
 use mathlib.Core.Path.{refl}
 use borrow.Author.Needs.{needs}
 use Rattle.c_numbers.proofs.heads.put_created.Statement.{statement}

@@ -1,4 +1,4 @@
--- Every place is stored. Assumes nothing.
+-- Every place is stored.
 use native.Mathlib.Omega.{arith}
 use lib.ListN.{length-set}
 use borrow.Author.Needs.{needs}

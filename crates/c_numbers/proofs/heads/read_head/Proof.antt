@@ -1,4 +1,4 @@
--- The numbers are read only if they fit. Assumes nothing.
+-- The numbers are read only if they fit.
 use native.Mathlib.Omega.{arith}
 use borrow.Author.Needs.{needs}
 use Rattle.c_numbers.proofs.Numbers.{within, read-none, read-fields}

@@ -1,5 +1,4 @@
 -- A list that is too short is refused; then a dirty page is, if there is one that counts; and otherwise everything goes.
--- Assumes nothing.
 use mathlib.Core.Path.{refl}
 use borrow.Author.Needs.{needs}
 use Rattle.model.specs.Call.{clear}

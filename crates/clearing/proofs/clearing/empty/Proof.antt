@@ -1,4 +1,4 @@
--- The handles are listed, and the memory is then as after creation. Assumes nothing.
+-- The handles are listed, and the memory is then as after creation.
 use borrow.Author.Needs.{needs}
 use Rattle.memory.proofs.Standing.{holds-by-key}
 use Rattle.clearing.proofs.Emptied.{no-refusal, never-refused, says-done, clear-emptied}

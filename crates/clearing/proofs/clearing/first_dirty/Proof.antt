@@ -1,4 +1,4 @@
--- Every page that the walk has passed is clean. Assumes nothing.
+-- Every page that the walk has passed is clean.
 use Prim.Native.Nat.{_-_}
 use native.Mathlib.Omega.{arith}
 use borrow.Author.Needs.{needs}

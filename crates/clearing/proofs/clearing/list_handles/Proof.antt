@@ -1,4 +1,4 @@
--- The list has the handles of the pages that the walk has passed. Assumes nothing.
+-- The list has the handles of the pages that the walk has passed.
 use Prim.Native.Nat.{_-_}
 use native.Mathlib.Omega.{arith}
 use Rattle.pool.specs.Slots.{entries}

@@ -1,4 +1,4 @@
--- The refusals come before the first store; after them the four stores leave a new pool. Assumes nothing.
+-- The refusals come before the first store; after them the four stores leave a new pool.
 use mathlib.Core.Path.{refl}
 use native.Mathlib.Omega.{arith}
 use borrow.Author.Needs.{needs}

@@ -1,4 +1,4 @@
--- The places passed hold x, and the others what they held. Assumes nothing.
+-- The places passed hold x, and the others what they held.
 use Prim.Native.Nat.{_-_}
 use native.Mathlib.Omega.{arith}
 use lib.ListN.{length}

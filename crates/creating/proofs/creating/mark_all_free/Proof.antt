@@ -1,4 +1,4 @@
--- All words are filled, and then the last one is cut, if it is used in part. Assumes nothing.
+-- All words are filled, and then the last one is cut, if it is used in part.
 use native.Mathlib.Omega.{arith}
 use borrow.Author.Needs.{needs}
 use Rattle.creating.proofs.Created.{shifted-some, marks-whole, marks-cut}

@@ -1,4 +1,4 @@
--- A test for each fault, in order (proofs/Opening.antt), and then the fields. Assumes nothing.
+-- A test for each fault, in order (proofs/Opening.antt), and then the fields.
 use lib.ListN.{take}
 use native.Mathlib.Omega.{arith}
 use borrow.Author.Needs.{needs}

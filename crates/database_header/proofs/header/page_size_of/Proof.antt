@@ -1,4 +1,4 @@
--- The number that is stored, or 65,536 for 1. Assumes nothing.
+-- The number that is stored, or 65,536 for 1.
 use mathlib.Core.Path.{sym, _∙_}
 use borrow.Author.Needs.{needs}
 use borrow.Author.Tests.{eq-eqb, ne-eqb}

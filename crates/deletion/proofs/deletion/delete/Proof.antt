@@ -1,4 +1,4 @@
--- The search finds the page, which goes by rule 8, or none. Assumes nothing.
+-- The search finds the page, which goes by rule 8, or none.
 use mathlib.Core.Path.{refl}
 use Prim.Native.Nat.{_≤_}
 use lib.ListN.{length}

@@ -1,4 +1,4 @@
--- The page is gone and listed first, or it stays: either way that is what rule 8 says. Assumes nothing.
+-- The page is gone and listed first, or it stays: either way that is what rule 8 says.
 use borrow.Author.Needs.{needs}
 use Rattle.model.specs.Call.{answer}
 use Rattle.answer.specs.Answer.{codeOf, valueOf}

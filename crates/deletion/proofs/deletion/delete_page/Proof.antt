@@ -1,5 +1,5 @@
 -- What is loaded at the slot is the page, and its record decides: it stays, and nothing was written, or it is listed and
--- removed. Assumes nothing.
+-- removed.
 use mathlib.Core.Logic.{_≢_}
 use native.Mathlib.Omega.{arith}
 use borrow.Author.Needs.{needs}

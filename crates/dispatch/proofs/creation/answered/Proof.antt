@@ -1,4 +1,4 @@
--- Each case has its answer. Assumes nothing.
+-- Each case has its answer.
 use borrow.Author.Needs.{needs}
 use Rattle.dispatch.proofs.creation.answered.Statement.{statement}
 use Rattle.dispatch.proofs.creation.answered.Tie as tie

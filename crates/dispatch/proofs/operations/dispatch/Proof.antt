@@ -1,4 +1,4 @@
--- Each arm's call comes to what the table of operations has at its number; what no arm takes is above 16. Assumes nothing.
+-- Each arm's call comes to what the table of operations has at its number; what no arm takes is above 16.
 use mathlib.Core.Path.{refl}
 use Prim.Native.Nat.{_≤_, zero-le}
 use native.Mathlib.Omega.{arith}

@@ -1,5 +1,5 @@
 -- The sweep finds a page, which is the first of the row that it leaves, and that page is removed; or it finds none, and has
--- come round to the hand. Assumes nothing.
+-- come round to the hand.
 use borrow.Author.Needs.{needs}
 use borrow.Author.Tests.{not-true, not-false}
 use Rattle.memory.specs.Memory.{memory}

@@ -1,5 +1,5 @@
 -- Each turn is an eviction: a page goes and its handle is listed, or none may go and the loop ends there. The measure is the
--- number of pages held. Assumes nothing.
+-- number of pages held.
 use mathlib.Core.Path.{_∙_}
 use native.Mathlib.Omega.{arith}
 use borrow.Author.Needs.{needs}

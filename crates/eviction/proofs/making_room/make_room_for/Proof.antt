@@ -1,4 +1,4 @@
--- Capacity 0 has no room to make and changes nothing; any other lets one page less stay. Assumes nothing.
+-- Capacity 0 has no room to make and changes nothing; any other lets one page less stay.
 use borrow.Author.Needs.{needs}
 use Rattle.eviction.proofs.OneMore.{made-none, made-one}
 use Rattle.eviction.proofs.making_room.make_room_for.Statement.{statement}

@@ -1,5 +1,4 @@
 -- A page that may not go is passed as it is, one with no use left is taken, and any other is passed and loses a use.
--- Assumes nothing.
 use borrow.Author.Needs.{needs}
 use borrow.Author.Tests.{not-true, not-false}
 use Rattle.eviction.proofs.Looking.{stays-passed, spent-taken, used-passed}

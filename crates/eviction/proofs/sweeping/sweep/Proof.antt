@@ -1,5 +1,5 @@
 -- Each turn is a look: it passes the page, and the loop is one look further, or takes it. The measure is the number of looks
--- that are left. Assumes nothing.
+-- that are left.
 use mathlib.Core.Path.{_∙_}
 use Prim.Native.Nat.{_-_}
 use native.Mathlib.Omega.{arith}

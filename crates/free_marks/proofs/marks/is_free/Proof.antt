@@ -1,4 +1,4 @@
--- The mark is the lowest digit of the word shifted down. Assumes nothing.
+-- The mark is the lowest digit of the word shifted down.
 use Rattle.pool.proofs.Tells.{tells-eq}
 use borrow.Author.Needs.{needs}
 use Rattle.free_marks.proofs.marks.is_free.Statement.{statement}

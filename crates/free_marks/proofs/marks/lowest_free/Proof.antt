@@ -1,5 +1,5 @@
 -- No slot that the walk passed is free, so that it can't pass the free slot that there is, and stops at the lowest.
--- What is left of the marks falls at each turn. Assumes nothing.
+-- What is left of the marks falls at each turn.
 use Prim.Native.Nat.{_*_, _-_}
 use native.Mathlib.Omega.{arith}
 use lib.ListN.{length}

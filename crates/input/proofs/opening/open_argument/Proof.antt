@@ -1,4 +1,4 @@
--- The name stands behind what the message begins with, and ends within it. Assumes nothing.
+-- The name stands behind what the message begins with, and ends within it.
 use lib.ListN.{length-take}
 use native.Mathlib.Omega.{arith}
 use borrow.Author.Needs.{needs}

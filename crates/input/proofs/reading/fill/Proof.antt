@@ -1,4 +1,4 @@
--- Each read that goes on brings a byte or more, and none goes past `size`. Assumes nothing.
+-- Each read that goes on brings a byte or more, and none goes past `size`.
 use mathlib.Core.Path.{_≡_}
 use Prim.Native.Nat.{_-_, _≤_}
 use lib.ListN.{length}

@@ -1,4 +1,4 @@
--- Room is made or not, and the form decides over the page for which there is none. Assumes nothing.
+-- Room is made or not, and the form decides over the page for which there is none.
 use borrow.Author.Needs.{needs}
 use native.Mathlib.Omega.{arith}
 use mathlib.Core.Path.{_∙_}

@@ -1,4 +1,4 @@
--- What the search says of the row, and what then follows. Assumes nothing.
+-- What the search says of the row, and what then follows.
 use borrow.Author.Needs.{needs}
 use mathlib.Core.Path.{refl}
 use Rattle.memory.proofs.Standing.{holds-by-key}

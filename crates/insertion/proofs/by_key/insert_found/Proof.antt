@@ -1,4 +1,4 @@
--- The record that is loaded is the page's, and it is stale or not. Assumes nothing.
+-- The record that is loaded is the page's, and it is stale or not.
 use borrow.Author.Needs.{needs}
 use Rattle.insertion.proofs.Keys.{found-inside, found-replaceable, found-stale, found-present}
 use Rattle.insertion.proofs.by_key.insert_found.Statement.{statement}

@@ -1,4 +1,4 @@
--- Each test is the model's, and then the rules follow. Assumes nothing.
+-- Each test is the model's, and then the rules follow.
 use borrow.Author.Needs.{needs}
 use native.Mathlib.Omega.{arith}
 use mathlib.Core.Path.{refl, sym, _∙_}

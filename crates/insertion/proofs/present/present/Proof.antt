@@ -1,4 +1,4 @@
--- What the form decides, and then the two handles. Assumes nothing.
+-- What the form decides, and then the two handles.
 use borrow.Author.Needs.{needs}
 use mathlib.Core.Path.{sym, _∙_}
 use Rattle.insertion.proofs.Presents.{present-inside, touched-replaceable, presents-replaced, presents-other, presents-same}

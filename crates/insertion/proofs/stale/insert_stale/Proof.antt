@@ -1,4 +1,4 @@
--- The page goes and the new one is admitted, or it stays. Assumes nothing.
+-- The page goes and the new one is admitted, or it stays.
 use borrow.Author.Needs.{needs}
 use mathlib.Core.Path.{_∙_}
 use Rattle.insertion.proofs.Renewal.{stale-deletable, stale-refused, stale-admissible, stale-admitted}

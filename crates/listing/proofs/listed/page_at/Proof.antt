@@ -1,4 +1,4 @@
--- What is handed back are fields of the entry that is loaded. Assumes nothing.
+-- What is handed back are fields of the entry that is loaded.
 use borrow.Author.Needs.{needs}
 use Rattle.listing.proofs.listed.page_at.Statement.{statement}
 use Rattle.listing.proofs.listed.page_at.Tie as tie

@@ -1,4 +1,4 @@
--- As many pages are listed as the tests allow: none, if the listing is refused. Assumes nothing.
+-- As many pages are listed as the tests allow: none, if the listing is refused.
 use borrow.Author.Needs.{needs}
 use Rattle.listing.proofs.Outcomes.{numbers-fit, admitted, comes}
 use Rattle.listing.proofs.numbers.list_numbers.Statement.{statement}

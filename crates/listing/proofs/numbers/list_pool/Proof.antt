@@ -1,4 +1,4 @@
--- Each turn stores the numbers of one page and goes on to the next slot. Assumes nothing.
+-- Each turn stores the numbers of one page and goes on to the next slot.
 use Prim.Native.Nat.{_-_}
 use borrow.Author.Needs.{needs}
 use Rattle.listing.proofs.Filling.{Numbering, filling-none, filling-inside, numbering-more, numbering-done}

@@ -1,4 +1,4 @@
--- The eight stores, one after another. Assumes nothing.
+-- The eight stores, one after another.
 use native.Mathlib.Omega.{arith}
 use lib.ListN.{length-set}
 use borrow.Author.Needs.{needs}

@@ -1,6 +1,6 @@
 -- `list_pages` meets its contract: a walk of its MIR, by hand, since it is lent a slice of structs. It calls `admit` and then
 -- `list_records`, for as many pages as `admit` says, so that there is no branch to follow: a refused listing lists no page. The list
--- goes to `list_records` for good, and what is known of it at exit is what that says of its last elements. Assumes nothing.
+-- goes to `list_records` for good, and what is known of it at exit is what that says of its last elements.
 use mathlib.Core.Path.{_≡_, refl, ap}
 use mathlib.Core.List.{List, [], _∷_}
 use Prim.Native.Nat.{ℕ, _<_, _^_}

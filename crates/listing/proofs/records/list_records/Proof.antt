@@ -1,7 +1,6 @@
 -- `list_records` meets its contract: a walk of its MIR, by hand, since it writes a slice of structs. The list's borrow is opened
 -- once, before the loop, and closed once, after it; between the two the elements are the function's own. Each turn calls `page_at`,
 -- of which only its contract is known, stores the page that comes back as one element, and goes on to the slot that came with it.
--- Assumes nothing.
 use mathlib.Core.Path.{_≡_, refl, sym, ap, subst}
 use mathlib.Core.Bool.{Bool, true, false}
 use mathlib.Core.List.{List, [], _∷_}

@@ -1,4 +1,4 @@
--- Each answer is given after the tests that it follows from. Assumes nothing.
+-- Each answer is given after the tests that it follows from.
 use mathlib.Core.Path.{refl}
 use borrow.Author.Needs.{needs}
 use Rattle.pool.proofs.Tells.{fails, passes}

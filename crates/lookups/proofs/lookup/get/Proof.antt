@@ -1,4 +1,4 @@
--- The search finds the page or none; a page that is found is stale, and goes by rule 8, or it is touched. Assumes nothing.
+-- The search finds the page or none; a page that is found is stale, and goes by rule 8, or it is touched.
 use mathlib.Core.Path.{refl, sym, _∙_}
 use Prim.Native.Nat.{_≤_}
 use lib.ListN.{length}

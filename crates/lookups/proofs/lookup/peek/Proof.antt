@@ -1,4 +1,4 @@
--- The search finds the page or none; the page is touched if asked. Assumes nothing.
+-- The search finds the page or none; the page is touched if asked.
 use mathlib.Core.Path.{refl}
 use mathlib.Core.List.{List}
 use Prim.Native.Nat.{ℕ, _<_}

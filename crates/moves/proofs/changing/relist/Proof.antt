@@ -1,4 +1,4 @@
--- The same handle is the same name. Under another one the slot goes out of the index and comes back. Assumes nothing.
+-- The same handle is the same name. Under another one the slot goes out of the index and comes back.
 use borrow.Author.Needs.{needs}
 use Rattle.order.proofs.Listed.{listed-index}
 use Rattle.moves.proofs.Relisting.{relisted-same, relist-some, relist-room, relisted-anew}

@@ -1,5 +1,4 @@
 -- What is stored is what was loaded, with the handle and the record; the index lists it so, and the estimate follows.
--- Assumes nothing.
 use mathlib.Core.Path.{refl}
 use borrow.Author.Needs.{needs}
 use Rattle.moves.proofs.Replacement.{slot-inside, can-relist, replaced-at}

@@ -1,4 +1,4 @@
--- What is stored is what was loaded, with the record. Assumes nothing.
+-- What is stored is what was loaded, with the record.
 use borrow.Author.Needs.{needs}
 use Rattle.moves.proofs.Change.{rewritten-at}
 use Rattle.moves.proofs.changing.rewrite_at.Statement.{statement}

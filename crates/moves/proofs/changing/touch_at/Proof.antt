@@ -1,4 +1,4 @@
--- What is stored is what was loaded, touched. Assumes nothing.
+-- What is stored is what was loaded, touched.
 use borrow.Author.Needs.{needs}
 use Rattle.moves.proofs.Change.{touched-at}
 use Rattle.moves.proofs.changing.touch_at.Statement.{statement}

@@ -1,4 +1,4 @@
--- The page counted or didn't, and counts now or doesn't; the estimate follows. Assumes nothing.
+-- The page counted or didn't, and counts now or doesn't; the estimate follows.
 use mathlib.Core.Path.{sym, _∙_}
 use borrow.Author.Needs.{needs}
 use Rattle.moves.proofs.estimate.count_over.Statement.{statement}

@@ -1,5 +1,5 @@
 -- The memory is put together by the calls in order: what each asks is a law of sound memory with a slot to spare, and what
--- they leave holds the cache that the page has entered. Assumes nothing.
+-- they leave holds the cache that the page has entered.
 use borrow.Author.Needs.{needs}
 use Rattle.moves.proofs.Placement.{spare-mark, by-key-room, by-handle-room, held-small, free-marked, free-seatable, placed}
 use Rattle.moves.proofs.placing.place.Statement.{statement}

@@ -1,4 +1,4 @@
--- Whether a page is held says which of the two ways of linking is asked for. Assumes nothing.
+-- Whether a page is held says which of the two ways of linking is asked for.
 use borrow.Author.Tests.{eq-eqb, ne-eqb}
 use borrow.Author.Needs.{needs}
 use Rattle.moves.proofs.placing.seat.Statement.{statement}

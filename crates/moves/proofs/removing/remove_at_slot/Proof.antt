@@ -1,5 +1,5 @@
 -- The memory is taken apart by the calls in order: what each asks is a law of sound memory, and what they leave holds the
--- cache without the page. Assumes nothing.
+-- cache without the page.
 use borrow.Author.Needs.{needs}
 use Rattle.memory.proofs.Standing.{holds-by-key, holds-by-handle}
 use Rattle.moves.proofs.Removal.{slot-inside, slot-unlinkable, slot-marked, some-held, removed}

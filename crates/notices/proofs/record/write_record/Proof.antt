@@ -1,4 +1,4 @@
--- A good record is written to the page that the search finds, if it finds one. Assumes nothing.
+-- A good record is written to the page that the search finds, if it finds one.
 use mathlib.Core.Path.{refl}
 use mathlib.Core.List.{List}
 use Prim.Native.Nat.{ℕ, _≤_, _<_}

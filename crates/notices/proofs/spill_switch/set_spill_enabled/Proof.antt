@@ -1,4 +1,4 @@
--- The head alone says whether spilling is on. Assumes nothing.
+-- The head alone says whether spilling is on.
 use mathlib.Core.Path.{_≡_, refl}
 use mathlib.Core.Bool.{Bool, true, false, cond}
 use mir.Val.{boolByte}

@@ -1,4 +1,4 @@
--- The search finds no seat of that name, since there is none, and the slot goes in at the gap. Assumes nothing.
+-- The search finds no seat of that name, since there is none, and the slot goes in at the gap.
 use mathlib.Core.Path.{_≡_}
 use denote.Ref.{now}
 use borrow.Author.Needs.{needs}

@@ -1,4 +1,4 @@
--- An insertion at the gap of a name keeps the index. Assumes nothing.
+-- An insertion at the gap of a name keeps the index.
 use borrow.Author.Needs.{needs}
 use Rattle.order.proofs.Listed.{listed-enter}
 use Rattle.order.proofs.enlisting.enlist_at.Statement.{statement}

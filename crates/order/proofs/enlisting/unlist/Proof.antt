@@ -1,5 +1,4 @@
 -- The search finds the seat of that name, since there is one and no other has it, and the seat goes out of its place.
--- Assumes nothing.
 use mathlib.Core.Path.{_≡_}
 use denote.Ref.{now}
 use borrow.Author.Needs.{needs}

@@ -1,4 +1,4 @@
--- A removal from a seat's place keeps the index. Assumes nothing.
+-- A removal from a seat's place keeps the index.
 use borrow.Author.Needs.{needs}
 use Rattle.order.proofs.Listed.{listed-leave}
 use Rattle.order.proofs.enlisting.unlist_at.Statement.{statement}

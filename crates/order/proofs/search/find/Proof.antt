@@ -1,5 +1,4 @@
 -- A binary search: each turn halves the bracket round the place of x, and where its ends meet, one look decides.
--- Assumes nothing.
 use Prim.Native.Nat.{ℕ, _+_, _-_, _/_}
 use mathlib.Core.Path.{sym, _∙_}
 use native.Mathlib.Omega.{arith}

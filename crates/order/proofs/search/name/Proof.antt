@@ -1,4 +1,4 @@
--- The name of a slot is that of the entry which `load` gives. Assumes nothing.
+-- The name of a slot is that of the entry which `load` gives.
 use borrow.Author.Needs.{needs}
 use Rattle.pool.specs.Slots.{entries}
 use Rattle.order.proofs.Names.{name-read}

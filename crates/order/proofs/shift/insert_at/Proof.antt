@@ -1,4 +1,4 @@
--- Each turn raises one element by a place, from the last down to place `at`, where the slot then goes. Assumes nothing.
+-- Each turn raises one element by a place, from the last down to place `at`, where the slot then goes.
 use Prim.Native.Nat.{_-_}
 use borrow.Author.Needs.{needs}
 use Rattle.order.proofs.Shifting.{Raising, raising-none, raising-more, raising-put}

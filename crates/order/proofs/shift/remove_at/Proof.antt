@@ -1,5 +1,4 @@
 -- Each turn lowers one element by a place, from the one after place `at` to the last, whose place is then zeroed.
--- Assumes nothing.
 use Prim.Native.Nat.{_-_}
 use borrow.Author.Needs.{needs}
 use Rattle.order.proofs.Shifting.{Lowering, lowering-none, lowering-more, lowering-put}

@@ -1,4 +1,4 @@
--- A header that is opened has a page size for which a piece has room. Assumes nothing.
+-- A header that is opened has a page size for which a piece has room.
 use lib.ListN.{length-take}
 use native.Mathlib.Omega.{arith}
 use Rattle.database_header.proofs.Opening.{sized}

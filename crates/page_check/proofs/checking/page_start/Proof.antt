@@ -1,4 +1,4 @@
--- A page with a number of 32 bits begins below 2 ^ 48. Assumes nothing.
+-- A page with a number of 32 bits begins below 2 ^ 48.
 use Prim.Native.Nat.{_-_, _*_, _≤_}
 use native.Mathlib.Nat.{mul-le-mul}
 use native.Mathlib.Omega.{arith}

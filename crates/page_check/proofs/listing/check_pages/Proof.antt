@@ -1,4 +1,4 @@
--- Each turn checks one page more, and the output has room for its line. Assumes nothing.
+-- Each turn checks one page more, and the output has room for its line.
 use Prim.Native.Nat.{_+_, _-_, _≤_}
 use borrow.Author.Needs.{needs}
 use Rattle.page_check.proofs.listing.check_pages.Statement.{statement}

@@ -1,4 +1,4 @@
--- A piece has room for a page. Assumes nothing.
+-- A piece has room for a page.
 use lib.ListN.{length-take}
 use native.Mathlib.Omega.{arith}
 use borrow.Author.Needs.{needs}

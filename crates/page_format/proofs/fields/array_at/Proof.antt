@@ -1,4 +1,4 @@
--- An interior page or a leaf. Assumes nothing.
+-- An interior page or a leaf.
 use mathlib.Core.Path.{sym, _∙_}
 use native.Mathlib.Omega.{arith}
 use borrow.Author.Needs.{needs}

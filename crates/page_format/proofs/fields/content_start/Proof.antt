@@ -1,4 +1,4 @@
--- The number that is stored, or 65,536 for 0. Assumes nothing.
+-- The number that is stored, or 65,536 for 0.
 use mathlib.Core.Path.{sym, _∙_}
 use native.Mathlib.Omega.{arith}
 use borrow.Author.Tests.{eq-eqb, ne-eqb}

@@ -1,4 +1,4 @@
--- Both bytes are there, and make the number. Assumes nothing.
+-- Both bytes are there, and make the number.
 use Rattle.page_format.specs.Fields.{half}
 use borrow.Author.Needs.{needs}
 use Rattle.page_format.proofs.fields.half_at.Statement.{statement}

@@ -1,4 +1,4 @@
--- Page 1 or another. Assumes nothing.
+-- Page 1 or another.
 use native.Mathlib.Omega.{arith}
 use borrow.Author.Tests.{eq-eqb, ne-eqb}
 use Rattle.page_format.proofs.fields.header_at.Statement.{statement}

@@ -1,4 +1,4 @@
--- Two kinds more than the interior ones. Assumes nothing.
+-- Two kinds more than the interior ones.
 use borrow.Author.Needs.{needs}
 use Rattle.page_format.proofs.fields.is_page_type.Statement.{statement}
 use Rattle.page_format.proofs.fields.is_page_type.Tie as tie

@@ -1,4 +1,4 @@
--- The sixteen bytes are looked at one after another. Assumes nothing.
+-- The sixteen bytes are looked at one after another.
 use Prim.Native.Nat.{_-_}
 use borrow.Author.Needs.{needs}
 use Rattle.page_format.specs.Rules.{LikeMagic}

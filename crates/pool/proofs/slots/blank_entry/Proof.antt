@@ -1,4 +1,4 @@
--- A new entry with every number 0 is blank. Assumes nothing.
+-- A new entry with every number 0 is blank.
 use Rattle.pool.specs.Slots.{blank}
 use borrow.Author.Needs.{needs}
 use Rattle.pool.proofs.slots.blank_entry.Statement.{statement}

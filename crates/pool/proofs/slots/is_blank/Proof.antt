@@ -1,4 +1,4 @@
--- A slot is blank exactly if its four words are zero, since packing is a bijection. Assumes nothing.
+-- A slot is blank exactly if its four words are zero, since packing is a bijection.
 use native.Mathlib.Omega.{arith}
 use Rattle.pool.proofs.Packing.{entries-length, blank-tested}
 use borrow.Author.Needs.{needs}

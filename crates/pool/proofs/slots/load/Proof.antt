@@ -1,4 +1,4 @@
--- A word is read below the length because its slot is, and its fields are those that `decode` cuts out of it. Assumes nothing.
+-- A word is read below the length because its slot is, and its fields are those that `decode` cuts out of it.
 use Prim.Native.Nat.{_*_, _+_}
 use mathlib.Core.Path.{sym}
 use native.Mathlib.Omega.{arith}

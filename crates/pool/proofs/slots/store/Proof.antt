@@ -1,5 +1,4 @@
 -- The words that are stored are those of the entry, whose fields fit their places because they are numbers of their widths.
--- Assumes nothing.
 use native.Mathlib.Omega.{arith}
 use lib.ListN.{length-set}
 use Rattle.pool.proofs.Packing.{entries-length, stored}

@@ -1,4 +1,4 @@
--- The two texts are compared byte by byte. Assumes nothing.
+-- The two texts are compared byte by byte.
 use Prim.Native.Nat.{_-_, _≤_}
 use borrow.Author.Needs.{needs}
 use Rattle.replay.proofs.asking.is_state.Statement.{statement}

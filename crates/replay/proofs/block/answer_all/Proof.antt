@@ -1,4 +1,4 @@
--- The output has room for the lines of one record more after each. Assumes nothing.
+-- The output has room for the lines of one record more after each.
 use Prim.Native.Nat.{_-_, _*_, _≤_}
 use lib.ListN.{length}
 use native.Mathlib.Omega.{arith}

@@ -1,4 +1,4 @@
--- A pool of 1,024 words has 256 slots. Assumes nothing.
+-- A pool of 1,024 words has 256 slots.
 use Prim.Native.Nat.{_-_, _*_}
 use mathlib.Core.Path.{_≡_}
 use lib.ListN.{length}

@@ -1,4 +1,4 @@
--- A handle takes at most 21 bytes. Assumes nothing.
+-- A handle takes at most 21 bytes.
 use Prim.Native.Nat.{_+_, _-_, _*_, _≤_}
 use borrow.Author.Needs.{needs}
 use Rattle.replay.proofs.line.put_handles.Statement.{statement}

@@ -1,4 +1,4 @@
--- A page takes at most 63 bytes. Assumes nothing.
+-- A page takes at most 63 bytes.
 use Prim.Native.Nat.{_+_, _-_, _*_, _≤_}
 use borrow.Author.Needs.{needs}
 use Rattle.replay.proofs.state.put_pages.Statement.{statement}

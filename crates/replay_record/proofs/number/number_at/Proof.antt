@@ -1,4 +1,4 @@
--- Each turn reads the next lower byte. Assumes nothing.
+-- Each turn reads the next lower byte.
 use Prim.Native.Nat.{_+_, _-_}
 use borrow.Author.Needs.{needs}
 use native.Mathlib.Omega.{arith}

@@ -1,4 +1,4 @@
--- A test for each reason against it, and then the fields. Assumes nothing.
+-- A test for each reason against it, and then the fields.
 use borrow.Author.Needs.{needs}
 use Rattle.replay_record.proofs.Deciding.{decoded-length, decoded-bad, decoded-good}
 use Rattle.replay_record.proofs.record.decode.Statement.{statement}

@@ -1,4 +1,4 @@
--- The tail is the number of its eight bytes. Assumes nothing.
+-- The tail is the number of its eight bytes.
 use borrow.Author.Needs.{needs}
 use Rattle.replay_record.proofs.record.is_bad.Statement.{statement}
 use Rattle.replay_record.proofs.record.is_bad.Tie as tie

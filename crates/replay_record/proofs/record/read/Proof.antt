@@ -1,4 +1,4 @@
--- Each field is read at its place. Assumes nothing.
+-- Each field is read at its place.
 use borrow.Author.Needs.{needs}
 use Rattle.replay_record.proofs.Deciding.{fields-read}
 use Rattle.replay_record.proofs.record.read.Statement.{statement}

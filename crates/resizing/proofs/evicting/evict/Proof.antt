@@ -1,4 +1,4 @@
--- A list that is too short is refused, and otherwise the rule follows. Assumes nothing.
+-- A list that is too short is refused, and otherwise the rule follows.
 use mathlib.Core.Path.{refl}
 use borrow.Author.Needs.{needs}
 use Rattle.model.specs.Call.{evict-one}

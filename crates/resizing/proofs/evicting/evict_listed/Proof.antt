@@ -1,4 +1,4 @@
--- Each answer is one of the model's eviction. Assumes nothing.
+-- Each answer is one of the model's eviction.
 use native.Mathlib.Omega.{arith}
 use borrow.Author.Needs.{needs}
 use Rattle.eviction.proofs.Step.{says-took, says-full}

@@ -1,4 +1,4 @@
--- A capacity above S and a list that is too short are refused, and otherwise the rule follows. Assumes nothing.
+-- A capacity above S and a list that is too short are refused, and otherwise the rule follows.
 use borrow.Author.Needs.{needs}
 use Rattle.resizing.proofs.Resized.{resize-large, resize-short, resize-acts}
 use Rattle.resizing.proofs.resizing.resize.Statement.{statement}

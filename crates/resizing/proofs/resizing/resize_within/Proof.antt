@@ -1,4 +1,4 @@
--- The same capacity changes nothing, and another one is set if the evictions were enough. Assumes nothing.
+-- The same capacity changes nothing, and another one is set if the evictions were enough.
 use borrow.Author.Needs.{needs}
 use Rattle.resizing.proofs.Resized.{few-listed, resize-same, resize-other}
 use Rattle.resizing.proofs.resizing.resize_within.Statement.{statement}

@@ -1,4 +1,4 @@
--- The answer is by whether the evictions ended with Full. Assumes nothing.
+-- The answer is by whether the evictions ended with Full.
 use borrow.Author.Needs.{needs}
 use Rattle.resizing.proofs.resizing.resized.Statement.{statement}
 use Rattle.resizing.proofs.resizing.resized.Tie as tie

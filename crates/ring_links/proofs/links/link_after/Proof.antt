@@ -1,4 +1,4 @@
--- Each call's result is the next step of `linkedAfter`, and no step changes how many slots there are. Assumes nothing.
+-- Each call's result is the next step of `linkedAfter`, and no step changes how many slots there are.
 use lib.ListN.{length-set}
 use Rattle.ring_links.specs.Links.{linkedAfter}
 use Rattle.ring_links.proofs.Columns.{length-next}

@@ -1,4 +1,4 @@
--- One store, of the entry with both links to itself. Assumes nothing.
+-- One store, of the entry with both links to itself.
 use Rattle.ring_links.specs.Links.{linkedFirst}
 use borrow.Author.Needs.{needs}
 use Rattle.ring_links.proofs.links.link_first.Statement.{statement}

@@ -1,4 +1,4 @@
--- The entry that is loaded is the slot's, and so is its next link. Assumes nothing.
+-- The entry that is loaded is the slot's, and so is its next link.
 use borrow.Author.Needs.{needs}
 use Rattle.ring_links.proofs.links.next.Statement.{statement}
 use Rattle.ring_links.proofs.links.next.Tie as tie

@@ -1,4 +1,4 @@
--- The entry that is stored is the one that was loaded, with another link. Assumes nothing.
+-- The entry that is stored is the one that was loaded, with another link.
 use Rattle.ring_links.specs.Links.{setPrev}
 use borrow.Author.Needs.{needs}
 use Rattle.ring_links.proofs.links.set_prev.Statement.{statement}

@@ -1,4 +1,4 @@
--- Each call's result is the next step of `unlinked`, and no step changes how many slots there are. Assumes nothing.
+-- Each call's result is the next step of `unlinked`, and no step changes how many slots there are.
 use Rattle.ring_links.specs.Links.{unlinked}
 use Rattle.ring_links.proofs.Columns.{length-next, length-prev}
 use borrow.Author.Needs.{needs}

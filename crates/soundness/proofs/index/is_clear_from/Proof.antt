@@ -1,4 +1,4 @@
--- Every place that was passed is zero. Assumes nothing.
+-- Every place that was passed is zero.
 use mathlib.Core.Path.{_≡_}
 use Prim.Native.Nat.{_-_}
 use native.Mathlib.Omega.{arith}

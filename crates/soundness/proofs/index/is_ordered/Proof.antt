@@ -1,4 +1,4 @@
--- Each slot is looked up before its name is read, and each name is at least one more than the last. Assumes nothing.
+-- Each slot is looked up before its name is read, and each name is at least one more than the last.
 use Prim.Native.Nat.{_-_}
 use native.Mathlib.Omega.{arith}
 use Rattle.pool.specs.Slots.{entries}

@@ -1,4 +1,4 @@
--- The two passes are the two parts. Assumes nothing.
+-- The two passes are the two parts.
 use borrow.Author.Needs.{needs}
 use Rattle.pool.proofs.Tells.{passes, refuses, tells-as}
 use Rattle.soundness.proofs.index.lists.Statement.{statement}

@@ -1,4 +1,4 @@
--- Each comparison tells its own part. Assumes nothing.
+-- Each comparison tells its own part.
 use Rattle.pool.proofs.Tells.{tells-and, tells-as}
 use Rattle.soundness.proofs.Passes.{tells-le}
 use Rattle.soundness.proofs.lengths.in_range.Statement.{statement}

@@ -1,4 +1,4 @@
--- Each comparison tells its own part, and too many slots are refused before their lengths are reckoned. Assumes nothing.
+-- Each comparison tells its own part, and too many slots are refused before their lengths are reckoned.
 use mathlib.Core.Path.{refl}
 use native.Mathlib.Omega.{arith}
 use borrow.Author.Needs.{needs}

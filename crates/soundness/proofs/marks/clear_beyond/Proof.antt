@@ -1,4 +1,4 @@
--- The marks beyond the last slot are the upper digits of the last word, if it is used in part. Assumes nothing.
+-- The marks beyond the last slot are the upper digits of the last word, if it is used in part.
 use borrow.Author.Needs.{needs}
 use Rattle.soundness.proofs.Bits.{beyond-none, beyond-tested}
 use Rattle.soundness.proofs.marks.clear_beyond.Statement.{statement}

@@ -1,4 +1,4 @@
--- After each word the 1 bits and the unmarked slots so far are 64 for each word. Assumes nothing.
+-- After each word the 1 bits and the unmarked slots so far are 64 for each word.
 use Prim.Native.Nat.{_-_}
 use native.Mathlib.Omega.{arith}
 use lib.ListN.{length}

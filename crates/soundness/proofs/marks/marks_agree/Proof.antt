@@ -1,4 +1,4 @@
--- The count is asked only if nothing stands beyond the last slot, and then it decides. Assumes nothing.
+-- The count is asked only if nothing stands beyond the last slot, and then it decides.
 use mathlib.Core.Path.{sym, _∙_}
 use borrow.Author.Needs.{needs}
 use Rattle.pool.proofs.Tells.{passes, refuses, tells-eq, tells-as}

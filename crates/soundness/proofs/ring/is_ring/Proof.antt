@@ -1,4 +1,4 @@
--- With nothing held there is nothing to walk, and the hand is 0. Assumes nothing.
+-- With nothing held there is nothing to walk, and the hand is 0.
 use native.Mathlib.Omega.{arith}
 use borrow.Author.Needs.{needs}
 use Rattle.soundness.proofs.Walking.{walked-none, walked-outside}

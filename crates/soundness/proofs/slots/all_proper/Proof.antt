@@ -1,4 +1,4 @@
--- Every slot that was passed is as its mark says. Assumes nothing.
+-- Every slot that was passed is as its mark says.
 use Prim.Native.Nat.{_-_}
 use native.Mathlib.Omega.{arith}
 use lib.ListN.{getD}

@@ -1,4 +1,4 @@
--- Each pass may refuse, since sound memory passes them all; and if none refuses, they come to soundness. Assumes nothing.
+-- Each pass may refuse, since sound memory passes them all; and if none refuses, they come to soundness.
 use native.Mathlib.Omega.{arith}
 use borrow.Author.Needs.{needs}
 use Rattle.pool.proofs.Tells.{passes, refuses}

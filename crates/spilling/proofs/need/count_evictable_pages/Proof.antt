@@ -1,4 +1,4 @@
--- The count is that of the pages met so far, and at the end the walk has met them all. Assumes nothing.
+-- The count is that of the pages met so far, and at the end the walk has met them all.
 use mathlib.Core.Path.{sym, _∙_}
 use mathlib.Core.Logic.{⊎-elim}
 use Prim.Native.Nat.{_-_}

@@ -1,4 +1,4 @@
--- The tests are those of the rule, read off the head, and the count is made only if none of them says no. Assumes nothing.
+-- The tests are those of the rule, read off the head, and the count is made only if none of them says no.
 use mathlib.Core.Path.{refl}
 use native.Mathlib.Omega.{arith}
 use borrow.Author.Needs.{needs}

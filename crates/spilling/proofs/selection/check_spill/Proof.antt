@@ -1,4 +1,4 @@
--- The list is measured, and the call is refused or goes by its rules. Assumes nothing.
+-- The list is measured, and the call is refused or goes by its rules.
 use borrow.Author.Needs.{needs}
 use Rattle.answer.proofs.Steps.{comes-told}
 use Rattle.spilling.proofs.Spilling.{spill-short, spill-acts}

@@ -1,4 +1,4 @@
--- The answer is that of the need and of what was selected. Assumes nothing.
+-- The answer is that of the need and of what was selected.
 use mathlib.Core.Path.{refl}
 use borrow.Author.Tests.{not-true, not-false}
 use borrow.Author.Needs.{needs}

@@ -1,4 +1,4 @@
--- What is listed are the pages met so far that may be spilled; the walk ends when there are enough, or no more. Assumes nothing.
+-- What is listed are the pages met so far that may be spilled; the walk ends when there are enough, or no more.
 use mathlib.Core.Path.{sym, _∙_}
 use mathlib.Core.Logic.{⊎-elim}
 use Prim.Native.Nat.{_-_}

@@ -1,4 +1,4 @@
--- A number of 64 bits has at most twenty digits. Assumes nothing.
+-- A number of 64 bits has at most twenty digits.
 use native.Mathlib.Omega.{arith}
 use borrow.Author.Needs.{needs}
 use Rattle.text.proofs.Digits.{twenty}

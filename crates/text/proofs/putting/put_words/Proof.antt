@@ -1,4 +1,4 @@
--- There is room for all the words, and each turn puts one byte. Assumes nothing.
+-- There is room for all the words, and each turn puts one byte.
 use Prim.Native.Nat.{_-_, _≤_}
 use lib.ListN.{length}
 use borrow.Author.Needs.{needs}

@@ -1,4 +1,4 @@
--- As many bytes as there are. Assumes nothing.
+-- As many bytes as there are.
 use Prim.Native.Nat.{_-_}
 use lib.ListN.{length-take}
 use native.Mathlib.Omega.{arith}

@@ -1,4 +1,4 @@
--- Each turn looks at the page of one place: it is passed, deleted, or refused, and then the call ends. Assumes nothing.
+-- Each turn looks at the page of one place: it is passed, deleted, or refused, and then the call ends.
 use mathlib.Core.Path.{sym, _∙_}
 use Prim.Native.Nat.{_-_}
 use native.Mathlib.Omega.{arith}

@@ -1,4 +1,4 @@
--- A list that is too short is refused, and otherwise the walk begins at the lowest key. Assumes nothing.
+-- A list that is too short is refused, and otherwise the walk begins at the lowest key.
 use mathlib.Core.Path.{refl}
 use native.Mathlib.Omega.{arith}
 use borrow.Author.Needs.{needs}

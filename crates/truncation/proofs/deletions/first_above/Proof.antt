@@ -1,5 +1,4 @@
 -- Keys are numbers of 32 bits, so that a greater limit is above all of them; another one has its place in the index.
--- Assumes nothing.
 use native.Mathlib.Omega.{arith}
 use borrow.Author.Needs.{needs}
 use Rattle.truncation.proofs.Chosen.{above-all, above-hit, above-miss, says-hit, says-miss}

@@ -1,4 +1,4 @@
--- Each arm tests what its pages are chosen by. Assumes nothing.
+-- Each arm tests what its pages are chosen by.
 use borrow.Author.Needs.{needs}
 use Rattle.truncation.proofs.deletions.is_chosen.Statement.{statement}
 use Rattle.truncation.proofs.deletions.is_chosen.Tie as tie

@@ -1,4 +1,4 @@
--- The entry that is loaded is the slot's. Assumes nothing.
+-- The entry that is loaded is the slot's.
 use mathlib.Core.Path.{_∙_, ap}
 use borrow.Author.Needs.{needs}
 use Rattle.page.specs.declared.entry.PageCacheEntry.{PageCacheEntry}

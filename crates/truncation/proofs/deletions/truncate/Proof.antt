@@ -1,4 +1,4 @@
--- A list that is too short is refused, and otherwise the walk begins at the limit's place. Assumes nothing.
+-- A list that is too short is refused, and otherwise the walk begins at the limit's place.
 use mathlib.Core.Path.{refl}
 use borrow.Author.Needs.{needs}
 use Rattle.model.specs.Call.{truncate}

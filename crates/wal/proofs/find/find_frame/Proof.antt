@@ -1,4 +1,4 @@
--- The committed frames lie within the log, and each turn looks at the next below (proofs/Descent.antt). Assumes nothing.
+-- The committed frames lie within the log, and each turn looks at the next below (proofs/Descent.antt).
 use mathlib.Core.Path.{_∙_}
 use native.Mathlib.Omega.{arith}
 use borrow.Author.Needs.{needs}

@@ -1,4 +1,4 @@
--- The quotient is compared (proofs/Reach.antt). Assumes nothing.
+-- The quotient is compared (proofs/Reach.antt).
 use native.Mathlib.Omega.{arith}
 use borrow.Author.Needs.{needs}
 use Rattle.wal.proofs.Reach.{reach-none, reach-divided}

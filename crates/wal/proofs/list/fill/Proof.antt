@@ -1,4 +1,4 @@
--- Each turn stores the two numbers of one frame (proofs/Filling.antt). Assumes nothing.
+-- Each turn stores the two numbers of one frame (proofs/Filling.antt).
 use Prim.Native.Nat.{_-_}
 use native.Mathlib.Omega.{arith}
 use borrow.Author.Needs.{needs}

@@ -1,4 +1,4 @@
--- The tests are made in the order of the answers, and then the lists are filled (proofs/Filling.antt). Assumes nothing.
+-- The tests are made in the order of the answers, and then the lists are filled (proofs/Filling.antt).
 use borrow.Author.Needs.{needs}
 use borrow.Author.Tests.{not-true, not-false}
 use Rattle.wal.proofs.Filling.{lists-other, lists-short, listable, lists-done}

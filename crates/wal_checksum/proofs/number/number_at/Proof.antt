@@ -1,4 +1,4 @@
--- The four bytes are there, and make the number. Assumes nothing.
+-- The four bytes are there, and make the number.
 use borrow.Author.Needs.{needs}
 use Rattle.wal_checksum.specs.Checksum.{bigEndian}
 use Rattle.wal_checksum.proofs.number.number_at.Statement.{statement}

@@ -1,4 +1,4 @@
--- The four bytes are there, and make the word in either order. Assumes nothing.
+-- The four bytes are there, and make the word in either order.
 use borrow.Author.Needs.{needs}
 use Rattle.wal_checksum.specs.Checksum.{bigEndian, littleEndian}
 use Rattle.wal_checksum.proofs.number.word_at.Statement.{statement}

@@ -1,4 +1,4 @@
--- The four additions wrap (proofs/Wrapping.antt). Assumes nothing.
+-- The four additions wrap (proofs/Wrapping.antt).
 use borrow.Author.Needs.{needs}
 use Rattle.wal_checksum.proofs.Wrapping.{pair-added}
 use Rattle.wal_checksum.proofs.sums.add_pair.Statement.{statement}

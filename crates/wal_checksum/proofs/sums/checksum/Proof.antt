@@ -1,4 +1,4 @@
--- Each turn sums one pair (proofs/Summing.antt). Assumes nothing.
+-- Each turn sums one pair (proofs/Summing.antt).
 use mathlib.Core.Path.{refl}
 use borrow.Author.Needs.{needs}
 use Rattle.wal_checksum.proofs.Summing.{Summing, summing-more, summing-done}

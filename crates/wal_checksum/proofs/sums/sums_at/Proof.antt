@@ -1,4 +1,4 @@
--- Both numbers are there. Assumes nothing.
+-- Both numbers are there.
 use borrow.Author.Needs.{needs}
 use Rattle.wal_checksum.proofs.sums.sums_at.Statement.{statement}
 use Rattle.wal_checksum.proofs.sums.sums_at.Tie as tie

@@ -1,4 +1,4 @@
--- The numbers are there. Assumes nothing.
+-- The numbers are there.
 use borrow.Author.Needs.{needs}
 use Rattle.wal_frame.specs.Frame.{frameAt}
 use Rattle.wal_frame.proofs.frame.frame_at.Statement.{statement}

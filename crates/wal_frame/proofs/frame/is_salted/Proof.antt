@@ -1,4 +1,4 @@
--- Both salts are compared. Assumes nothing.
+-- Both salts are compared.
 use borrow.Author.Needs.{needs}
 use Rattle.wal_frame.specs.Frame.{salted}
 use Rattle.wal_frame.proofs.frame.is_salted.Statement.{statement}

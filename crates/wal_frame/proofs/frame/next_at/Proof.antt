@@ -1,4 +1,4 @@
--- Whole, then the salts, then the sums. Assumes nothing.
+-- Whole, then the salts, then the sums.
 use mathlib.Core.Path.{_≡_, _∙_}
 use borrow.Author.Needs.{needs}
 use borrow.Author.Tests.{not-true, not-false}

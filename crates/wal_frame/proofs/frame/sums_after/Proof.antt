@@ -1,4 +1,4 @@
--- The page goes on from the sums of the two numbers before it. Assumes nothing.
+-- The page goes on from the sums of the two numbers before it.
 use borrow.Author.Needs.{needs}
 use Rattle.wal_frame.specs.Frame.{sumsAfter}
 use Rattle.wal_frame.proofs.frame.sums_after.Statement.{statement}

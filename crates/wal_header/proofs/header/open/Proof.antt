@@ -1,4 +1,4 @@
--- A test for each fault, in order, and then the fields. Assumes nothing.
+-- A test for each fault, in order, and then the fields.
 use mathlib.Core.Path.{_≡_, sym, _∙_}
 use borrow.Author.Needs.{needs}
 use borrow.Author.Tests.{not-true, not-false}

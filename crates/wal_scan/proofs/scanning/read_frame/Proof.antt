@@ -1,4 +1,4 @@
--- A piece has room for a frame. Assumes nothing.
+-- A piece has room for a frame.
 use lib.ListN.{length-take}
 use native.Mathlib.Omega.{arith}
 use borrow.Author.Needs.{needs}

@@ -1,4 +1,4 @@
--- A header that is opened has a page size for which a piece has room (proofs/Sized.antt). Assumes nothing.
+-- A header that is opened has a page size for which a piece has room (proofs/Sized.antt).
 use mathlib.Core.Path.{sym, _∙_}
 use lib.ListN.{length-take}
 use native.Mathlib.Omega.{arith}

@@ -1,4 +1,4 @@
--- Each turn reads one frame more (proofs/Going.antt), and the output has room for its line. Assumes nothing.
+-- Each turn reads one frame more (proofs/Going.antt), and the output has room for its line.
 use Prim.Native.Nat.{_-_}
 use native.Mathlib.Omega.{arith}
 use borrow.Author.Needs.{needs}

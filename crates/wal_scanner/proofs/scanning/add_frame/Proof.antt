@@ -1,4 +1,4 @@
--- A commit is counted and kept; any other frame leaves the last commit. Assumes nothing.
+-- A commit is counted and kept; any other frame leaves the last commit.
 use borrow.Author.Needs.{needs}
 use Rattle.wal_scanner.proofs.Turns.{counted-plain, counted-commit}
 use Rattle.wal_scanner.proofs.scanning.add_frame.Statement.{statement}

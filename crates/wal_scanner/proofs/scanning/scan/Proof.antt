@@ -1,4 +1,4 @@
--- The header is refused, or the frames after it are read. Assumes nothing.
+-- The header is refused, or the frames after it are read.
 use borrow.Author.Needs.{needs}
 use mathlib.Core.Path.{sym, _∙_}
 use Rattle.wal_header.proofs.Opening.{opened-long}

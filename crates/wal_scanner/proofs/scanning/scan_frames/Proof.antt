@@ -1,4 +1,4 @@
--- Each turn counts one valid frame more (proofs/Turns.antt), and the end of what was read moves on. Assumes nothing.
+-- Each turn counts one valid frame more (proofs/Turns.antt), and the end of what was read moves on.
 use borrow.Author.Needs.{needs}
 use Prim.Native.Nat.{_-_}
 use lib.ListN.{length}

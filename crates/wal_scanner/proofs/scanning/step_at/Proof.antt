@@ -1,4 +1,4 @@
--- There is a valid frame, which is counted, or there is none. Assumes nothing.
+-- There is a valid frame, which is counted, or there is none.
 use borrow.Author.Needs.{needs}
 use native.Mathlib.Omega.{arith}
 use Rattle.wal_scanner.proofs.Turns.{countable, stepped-end, stepped-valid}

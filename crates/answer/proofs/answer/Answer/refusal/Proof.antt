@@ -1,4 +1,4 @@
--- Each arm answers its reason. Assumes nothing.
+-- Each arm answers its reason.
 use borrow.Author.Needs.{needs}
 use Rattle.answer.proofs.answer.Answer.refusal.Statement.{statement}
 use Rattle.answer.proofs.answer.Answer.refusal.Tie as tie

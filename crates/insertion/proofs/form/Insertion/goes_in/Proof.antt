@@ -1,4 +1,4 @@
--- Each arm answers for its form. Assumes nothing.
+-- Each arm answers for its form.
 use borrow.Author.Needs.{needs}
 use Rattle.insertion.proofs.form.Insertion.goes_in.Statement.{statement}
 use Rattle.insertion.proofs.form.Insertion.goes_in.Tie as tie

@@ -1,4 +1,4 @@
--- The two tests are those of the definition, each by its own contract. Assumes nothing.
+-- The two tests are those of the definition, each by its own contract.
 use borrow.Author.Needs.{needs}
 use Rattle.page.proofs.cache.PageCache.counted_as_evictable.Statement.{statement}
 use Rattle.page.proofs.cache.PageCache.counted_as_evictable.Tie as tie

@@ -1,4 +1,4 @@
--- The tests are those of the definition, in its order, each by its own contract. Assumes nothing.
+-- The tests are those of the definition, in its order, each by its own contract.
 use borrow.Author.Needs.{needs}
 use Rattle.page.proofs.cache.PageCache.evictable.Statement.{statement}
 use Rattle.page.proofs.cache.PageCache.evictable.Tie as tie

@@ -1,4 +1,4 @@
--- A touch: below 3 the count rises by 1, and from 3 on it is 3. Assumes nothing.
+-- A touch: below 3 the count rises by 1, and from 3 on it is 3.
 use mathlib.Core.Path.{ap}
 use native.Mathlib.Omega.{arith}
 use borrow.Author.Needs.{needs}

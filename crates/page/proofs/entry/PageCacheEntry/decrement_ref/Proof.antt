@@ -1,4 +1,4 @@
--- A fall by 1: where the count is 0 there is nothing to take. Assumes nothing.
+-- A fall by 1: where the count is 0 there is nothing to take.
 use mathlib.Core.Path.{ap}
 use native.Mathlib.Omega.{arith}
 use borrow.Author.Needs.{needs}

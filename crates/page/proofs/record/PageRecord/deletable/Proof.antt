@@ -1,4 +1,4 @@
--- The tests in order: each return rewrites by the tests that led to it. Assumes nothing.
+-- The tests in order: each return rewrites by the tests that led to it.
 use mathlib.Core.Path.{sym, _∙_}
 use borrow.Author.Needs.{needs}
 use Rattle.page.proofs.record.PageRecord.deletable.Statement.{statement}
