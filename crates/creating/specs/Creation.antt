@@ -14,7 +14,7 @@ use Rattle.creating.specs.declared.creating.Created.{Created}
 use Rattle.creating.specs.declared.creating.Created.the-variants.{Done, BadLengths, TooLarge}
 
 -- ── the memory after ─────────────────────────────────────────────────────────
--- the last word of marks, if slots are left for one: a bit for each, and unused bits are 0
+-- the word of marks for the slots that don't fill a whole word, if there are any: a 1 bit for each, and unused bits are 0
 abbrev pub lastMarks : ℕ → List ℕ
 lastMarks zero = []
 lastMarks (suc slots) = (2 ^ suc slots - 1) ∷ []

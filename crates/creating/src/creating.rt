@@ -13,7 +13,7 @@ pub enum Created {
     Done(PageCache),
     // 16. There are no slots, or too many, or the lengths of the parts don't agree.
     BadLengths,
-    // 15. The capacity is more than the slots.
+    // 15. The capacity is above the number of slots.
     TooLarge,
 }
 

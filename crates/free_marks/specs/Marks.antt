@@ -18,7 +18,7 @@ pub record MarkedAs (mark : ℕ) (marks : List ℕ) (s : ℕ) (marks′ : List �
   pub others : (k : ℕ) → (k ≡ s → ⊥) → bitAt marks′ k ≡ bitAt marks k
   pub long : length marks′ ≡ length marks
 
--- a slot is free, and there are no more marks than the largest pool needs: 2,048 words for 131,072 slots
+-- a slot is free, and there are at most 2,048 words of marks; the largest pool has 64
 pub record SomeFree (marks : List ℕ) : Type 0 where
   pub slot : ℕ
   pub free : bitAt marks slot ≡ 1

@@ -10,12 +10,12 @@ use Rattle.model.specs.Row.{Page, Entry, Row, change, without}
 use Rattle.model.specs.Sweep.{touched}
 
 pub record Cache : Type 0 where
-  -- S
+  -- S, the number of slots
   pub size : ℕ
   pub capacity : ℕ
   -- the spill switch
   pub spill : Bool
-  -- of how many pages count
+  -- rule 12's estimate of how many pages count
   pub estimate : ℕ
   pub row : Row
 
@@ -72,7 +72,7 @@ unfoldable pub slotTaken : ℕ → Row → Bool
 slotTaken s [] = false
 slotTaken s (e ∷ es) = eqb s (e .page .slot) || slotTaken s es
 
--- the first of the slots s, s + 1, .. that is free, of which one among the next k is
+-- the first free slot from s on, or s + k if the k slots from s on are all taken
 unfoldable pub freeFrom : ℕ → ℕ → Row → ℕ
 freeFrom zero s row = s
 freeFrom (suc k) s row = elim (slotTaken s row) [ true ↦ freeFrom k (suc s) row | false ↦ s ]

@@ -38,7 +38,7 @@ pub record Outcome : Type 0 where
   pub passed : ℕ
   -- the handles that the call removed, in order of removal, or selected, by key
   pub listed : List ℕ
-  -- the touches that the call did, and the uses that its sweeps took away: nobody is told, and demand 3 counts them
+  -- the touches that the call did, and the uses that its sweeps took away: no part of the answer, but demand 3 counts them
   pub touches : ℕ
   pub falls : ℕ
   pub cache : Cache

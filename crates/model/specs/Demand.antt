@@ -1,4 +1,4 @@
--- Demand 3: what one eviction comes to, said at once.
+-- Demand 3: the result of one eviction, in one statement instead of look by look.
 use mathlib.Core.Bool.{Bool, true, false}
 use mathlib.Core.List.{_∷_, _++_, map}
 use mathlib.Core.Option.{none, some}

@@ -17,14 +17,15 @@ pub record Loses (r : ℕ) (e e′ : Entry) : Type 0 where
   pub falls : MayGo pageMayGo e → e′ .uses + r ≡ e .uses
   pub keeps : Stays pageMayGo e → e′ .uses ≡ e .uses
 
--- each entry of a row has, in its order
+-- each entry of a row has lost r uses so, and the order is the same
 abbrev pub EachLoses : ℕ → Row → Row → Type 0
 EachLoses r [] [] = Unit {0}
 EachLoses r [] (e′ ∷ es′) = ⊥
 EachLoses r (e ∷ es) [] = ⊥
 EachLoses r (e ∷ es) (e′ ∷ es′) = Loses r e e′ × EachLoses r es es′
 
--- the page v goes, of n = `heldIn c` pages, and leaves the cache c′; its handle is `gone`, and so many pages were passed
+-- the page v, whose handle is `gone`, is evicted from the cache c of n = `heldIn c` pages, which leaves the cache c′; `passed` pages were
+-- passed
 pub record OneGoes (c : Cache) (gone passed : ℕ) (c′ : Cache) : Type 0 where
   -- the row from the hand: the pages that the sweep meets before v, v, the others
   pub met : Row
@@ -53,15 +54,15 @@ pub record NoneGoes (c : Cache) (passed : ℕ) : Type 0 where
   pub rounds : passed ≡ 4 * heldIn c
 
 -- ── evictions, one after another ─────────────────────────────────────────────
--- evictions from c while more than `target` pages are held. The uses that fell in one of them are those that the row has less
--- after it: v had lost all of its own when it went
+-- evictions from c while more than `target` pages are held. The uses that fall in one eviction are the row's total before it minus the
+-- total after it: the page that goes has no use left by then
 pub data EvictsTo (target : ℕ) : Cache → Room → Type 0 where
   -- no more are held: done
   enough : {c : Cache} → heldIn c ≤ target → EvictsTo target c (rooms.enough c)
   -- Full is the end, and changes nothing
   full : {c : Cache} {passed : ℕ} → target < heldIn c → NoneGoes c passed
       → EvictsTo target c (record { full = true; passed = passed; falls = 0; gone = []; cache = c })
-  -- a page goes, and the rest follow
+  -- a page goes, and the other evictions follow
   takes : {c c′ : Cache} {rest : Room} {gone passed : ℕ} → target < heldIn c → OneGoes c gone passed c′ → (fell : ℕ)
       → fell + total (c′ .row) ≡ total (c .row) → EvictsTo target c′ rest
       → EvictsTo target c (record {

@@ -56,7 +56,7 @@ put how state k = insert how k (10 * k) state pool
 abbrev pub touchAll : List ℕ → List Call
 touchAll ks = map (λ k. peek k true) ks
 
--- ── what is seen ─────────────────────────────────────────────────────────────
+-- ── what is compared ─────────────────────────────────────────────────────────
 pub record Told : Type 0 where
   pub code : ℕ
   pub value : ℕ
@@ -86,8 +86,8 @@ abbrev pub seats : Row → List Seat
 seats row = map (λ e. seat (e .page .key) (e .uses)) row
 
 -- ── the table ────────────────────────────────────────────────────────────────
--- what is left to see: the last answers; of the cache its capacity, estimate and row from the hand; and of the whole run its touches,
--- and the uses that its sweeps took away
+-- what an example shows: the last answers; the cache's capacity, estimate and row from the hand at the end; and the touches of the whole
+-- run, and the uses that its sweeps took away
 pub record Shown : Type 0 where
   pub ends : List Told
   pub capacity : ℕ
@@ -97,9 +97,9 @@ pub record Shown : Type 0 where
   pub falls : ℕ
 
 pub record Example : Type 0 where
-  -- S
+  -- S, the number of slots
   pub slots : ℕ
-  -- created with
+  -- the capacity at creation
   pub capacity : ℕ
   pub calls : List Call
   pub shows : Shown
@@ -119,7 +119,7 @@ pub record Used : Type 0 where
 abbrev pub used : (touches falls : ℕ) → Used
 used touches falls = record { touches = touches; falls = falls }
 
--- none touched, and none fallen
+-- no touch, and no use taken away
 abbrev pub unused : Used
 unused = used 0 0
 

@@ -8,7 +8,7 @@ use Rattle.model.specs.Demand.{Limited}
 use Rattle.model.specs.Cache.{Cache, heldIn, estimateMax}
 use Rattle.model.specs.Call.{Call, create, insert, lookup, peek, delete, resize, truncate, remove-frames, clear, notify-dirty, notify-spilled, write, spill, evict-one, switch}
 
--- no two entries of the row have the same number, their key, handle or slot
+-- no two entries of the row have the same number, which is their key, handle or slot
 abbrev pub Apart : (Page → ℕ) → Row → Type 0
 Apart number [] = Unit {0}
 Apart number (e ∷ es) = Each (λ x. number (e .page) ≢ number (x .page)) es × Apart number es
@@ -38,8 +38,8 @@ pub record Kept (c : Cache) : Type 0 where
   pub keys : Apart (λ p. p .key) (c .row)
   pub handles : Apart (λ p. p .handle) (c .row)
 
--- the arguments of a call are of their kind: 32 bits for keys and handles, a page record's fields within their limits.
--- Flags are tested (code 2), and other numbers may be any
+-- the arguments of a call are in range: 32 bits for keys and handles, a page record's fields within their limits.
+-- Flags are tested (code 2); all other numbers may have any value
 abbrev pub Proper : Call → Type 0
 Proper (create n) = Unit {0}
 Proper (insert how key handle p l) = (key < 2 ^ 32) × (handle < 2 ^ 32) × Fit p

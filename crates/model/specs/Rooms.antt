@@ -45,7 +45,7 @@ sweeping c (some p) rest = record {
   cache = rest .cache;
 }
 
--- evict while held > target, at most so many times
+-- evict while held > target, k times at most
 unfoldable pub evictions : ℕ → ℕ → Cache → Room
 evictions zero target c = enough c
 evictions (suc k) target c = elim (ltb target (heldIn c)) [

@@ -20,12 +20,12 @@ pub record Entry : Type 0 where
 abbrev pub Row : Type 0
 Row = List Entry
 
--- every entry of the row is so
+-- P holds of every entry of the row
 abbrev pub Each : (Entry → Type 0) → Row → Type 0
 Each P [] = Unit {0}
 Each P (e ∷ es) = P e × Each P es
 
--- all its uses together
+-- the sum of its use counts
 unfoldable pub total : Row → ℕ
 total [] = 0
 total (e ∷ es) = e .uses + total es
@@ -58,7 +58,7 @@ unfoldable pub byKey : Row → Row
 byKey [] = []
 byKey (e ∷ es) = sortIn e (byKey es)
 
--- those of the pages of a row that are so, in the row's order
+-- the pages of the row that pass the test, in the row's order
 unfoldable pub those : (Page → Bool) → Row → List Page
 those test [] = []
 those test (e ∷ es) = elim (test (e .page)) [ true ↦ e .page ∷ those test es | false ↦ those test es ]

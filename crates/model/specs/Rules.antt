@@ -41,13 +41,13 @@ module _ (key handle : ℕ) (state : PageRecord) where
   abbrev pub placeIfFree : Cache → Outcome
   placeIfFree c = elim (ltb (heldIn c) (c .size)) [ true ↦ place c | false ↦ answer 13 0 c ]
 
-  -- forced forms go on
+  -- no room could be made: the forced forms go in without it
   abbrev pub onFull : Insertion → Cache → Outcome
   onFull plain c = answer 8 0 c
   onFull forced c = placeIfFree c
   onFull upsert c = placeIfFree c
 
-  -- after room was made, or not
+  -- after the attempt to make room
   abbrev pub inRoom : Insertion → Room → Outcome
   inRoom how r = following r (elim (r .full) [ true ↦ onFull how (r .cache) | false ↦ place (r .cache) ])
 

@@ -23,7 +23,7 @@ needsSpill c =
 abbrev pub pageSpillable : Page → Bool
 pageSpillable p = spillable (p .key) (p .state)
 
--- rule 14: the first so many pages by key that can be spilled
+-- rule 14: the first `most` pages by key that can be spilled
 unfoldable pub selection : ℕ → Cache → List Page
 selection most c = take most (those pageSpillable (byKey (c .row)))
 

@@ -31,7 +31,7 @@ module _ (may : Page → Bool) where
   unfoldable pub goesNow : Entry → Bool
   goesNow e = may (e .page) && eqb (e .uses) 0
 
-  -- rule 3, at most so many looks. A look at the hand: the page is removed and the hand moves on; otherwise it loses 1 if
+  -- rule 3, k looks at most. A look at the hand: the page is removed and the hand moves on; otherwise it loses 1 if
   -- it may go, and either way the hand moves on and passed grows by 1
   unfoldable pub looks : ℕ → Row → Swept
   looks zero row = record { victim = none; passed = 0; row = row }

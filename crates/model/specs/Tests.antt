@@ -14,7 +14,7 @@ pub record Naming : Type 0 where
   pub key : ℕ
   pub handle : ℕ
 
--- what of a call is tested
+-- the arguments of a call that are tested
 pub record Asks : Type 0 where
   pub capacity : Option ℕ
   pub state : Option PageRecord

@@ -1,4 +1,4 @@
--- Demand 3's ledger: which page a call touches, and which evictions it makes, told from the cache before the call. An `Outcome`
+-- Demand 3's ledger: which page a call touches, and which evictions it makes, as a function of the cache before the call. An `Outcome`
 -- counts touches and falls where they happen; that it counts these and no others is proved (proofs/Exact.antt).
 use mathlib.Core.Bool.{Bool, true, false}
 use mathlib.Core.List.{List, [], _∷_, _++_}
@@ -18,7 +18,8 @@ use Rattle.model.specs.Rooms.{Room}
 use Rattle.model.specs.Evictions.{EvictsTo}
 
 -- ── what a call does to use counts ───────────────────────────────────────────
--- evictions: from which cache, while more than how many pages are held, and the handles that the call listed before them
+-- the evictions of a call: they start from the cache `from`, go on while more than `target` pages are held, and come after the call has
+-- listed the handles `listed`
 pub record Evicting : Type 0 where
   pub from : Cache
   pub target : ℕ
@@ -106,7 +107,7 @@ abbrev pub effectOf : Call → Cache → Effect
 effectOf call c = unlessRefused (refusal call c) (ruleEffect call c)
 
 -- ── touches ──────────────────────────────────────────────────────────────────
--- how many: one, or none
+-- their number: one, or none
 abbrev pub touchesOf : Option ℕ → ℕ
 touchesOf none = 0
 touchesOf (some key) = 1
@@ -125,7 +126,7 @@ pub record TouchesAt (key : ℕ) (row : Row) (o : Outcome) : Type 0 where
   pub key-is : e′ .page .key ≡ key
   pub uses : e′ .uses ≡ raised (e .uses)
 
--- or none is
+-- the page under the key is touched, or no touch is counted
 abbrev pub Touched : Option ℕ → Row → Outcome → Type 0
 Touched none row o = _≡_ {A = ℕ} (o .touches) 0
 Touched (some key) row o = TouchesAt key row o
@@ -154,14 +155,14 @@ abbrev pub EvictionsOf : Option Evicting → Outcome → Type 0
 EvictionsOf none o = NoEvictions o
 EvictionsOf (some x) o = EvictionsIn x o
 
--- the uses that fell, told from the cache after the call: those that the cache from which pages were evicted had more. A page had lost
--- all its uses when it went, and a new one comes with none
+-- the uses that fell, read off the cache after the call: the total use count before the evictions minus the total after the call. A page
+-- has no use left when it is evicted, and a new one comes with none
 abbrev pub Fell : Option Evicting → Cache → ℕ → Type 0
 Fell none after n = _≡_ {A = ℕ} n 0
 Fell (some x) after n = n + total (after .row) ≡ total (x .from .row)
 
 -- ── both ─────────────────────────────────────────────────────────────────────
--- an outcome, from this row, counts what the call does to use counts
+-- the outcome of a call on this row counts exactly what the call does to use counts
 pub record Counts (x : Effect) (row : Row) (o : Outcome) : Type 0 where
   pub touches : Touched (x .touched) row o
   pub evictions : EvictionsOf (x .evicting) o

@@ -16,7 +16,7 @@
 //     Rules.antt      rules 6 to 11: insertion, lookup, deletion, resize, the sweeping deletions
 //     Spill.antt      rules 13 and 14
 //     Step.antt       every call: tests, then rules; runs of calls
-//     Uses.antt       demand 3's ledger: the touch of a call and its evictions, told from the cache before it
+//     Uses.antt       demand 3's ledger: the touch of a call and its evictions, as a function of the cache before it
 //     Limits.antt     what a cache keeps from its creation on
 //     Examples.antt   01's sweeps to check by hand, and an example of each call and answer, as a table
 //

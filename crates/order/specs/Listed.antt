@@ -1,4 +1,4 @@
--- An index and the seats that it lists: the same slots, whatever their order there.
+-- An index and the seats that it lists: the same slots, in whatever order the seats are given.
 use mathlib.Core.Path.{_≡_}
 use mathlib.Core.Bool.{true}
 use mathlib.Core.List.{List, _∷_, _++_}
@@ -27,26 +27,26 @@ pub record HasRoom (col order : List ℕ) (n : ℕ) : Type 0 where
   pub index : Index col order n
   pub room : n < length order
 
--- whichever n seats the order listed, it lists them and s, once s has the name x
+-- if the order listed n seats, it now lists those seats and s, which has the name x from now on
 abbrev pub Enlisted : List ℕ → List ℕ → ℕ → ℕ → ℕ → List ℕ → Type 0
 Enlisted col order n x s order′ =
     (seats : List ℕ) → Listed col order seats → length seats ≡ n → Fresh col seats s → Absent col seats x
     → Listed (set col s x) order′ (s ∷ seats)
 
--- the same where a search left x at the gap `at`, by whichever names
+-- the same, for any column of names in which a search for x ends at the gap `at`
 abbrev pub EnlistedAt : List ℕ → ℕ → ℕ → ℕ → List ℕ → Type 0
 EnlistedAt order n at s order′ =
     (col seats : List ℕ) (x : ℕ) → Listed col order seats → length seats ≡ n → Fresh col seats s → Miss col order n x at
     → Listed (set col s x) order′ (s ∷ seats)
 
 -- ── a slot goes out ──────────────────────────────────────────────────────────
--- whichever n seats the order listed, it lists them without the one that has the name x
+-- if the order listed n seats, it now lists them without the one that has the name x
 abbrev pub Unlisted : List ℕ → List ℕ → ℕ → ℕ → List ℕ → Type 0
 Unlisted col order n x order′ =
     (before : List ℕ) (s : ℕ) (after : List ℕ) → Listed col order (before ++ s ∷ after) → Apart (before ++ s ∷ after)
     → length (before ++ s ∷ after) ≡ n → getD col s 0 ≡ x → Listed col order′ (before ++ after)
 
--- the same where the seat stood at place `at`, by whichever names
+-- the same, for any column of names, for the seat at place `at`
 abbrev pub UnlistedAt : List ℕ → ℕ → ℕ → List ℕ → Type 0
 UnlistedAt order n at order′ =
     (col before : List ℕ) (s : ℕ) (after : List ℕ) → Listed col order (before ++ s ∷ after) → Apart (before ++ s ∷ after)

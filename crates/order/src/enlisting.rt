@@ -1,5 +1,5 @@
-// A slot comes into an index or goes out of it. The caller writes or clears the slot's entry afterwards: until then the
-// names are those that the index was searched by.
+// A slot is added to an index or removed from it. The caller writes or clears the slot's entry only afterwards, so that the index
+// is searched by the names that it was sorted by.
 use crate::search::By;
 use crate::search::Spot;
 use crate::search::find;
@@ -22,7 +22,7 @@ pub fn enlist(order: &mut [u32], slots: &[u64], by: By, n: usize, x: u32, s: Slo
     enlist_at(order, n, at, s);
 }
 
-// The same where a search has found the gap, and nothing has come in or gone out since.
+// The same if a search has found the gap, and the index has not changed since.
 pub fn enlist_at(order: &mut [u32], n: usize, at: usize, s: Slot)
     requires { ⌜ CanInsert (now order) n at ⌝ }
     ensures { λ _. ⌜ EnlistedAt (now (order .entry)) n at (s .0) (now (order .exit)) ⌝ }
@@ -41,7 +41,7 @@ pub fn unlist(order: &mut [u32], slots: &[u64], by: By, n: usize, x: u32)
     unlist_at(order, n, at);
 }
 
-// The same where the slot's place is known.
+// The same if the slot's place is known.
 pub fn unlist_at(order: &mut [u32], n: usize, at: usize)
     requires { ⌜ CanRemove (now order) n at ⌝ }
     ensures { λ _. ⌜ UnlistedAt (now (order .entry)) n at (now (order .exit)) ⌝ }

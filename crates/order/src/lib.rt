@@ -3,8 +3,8 @@
 //     place    0    1    2   ..   n-1   n   ..   S-1
 //     order    a    b    c   ..    z    0   ..    0       slots, with name(a) < name(b) < name(c) < .. < name(z)
 //
-// An order holds slots and no names: a name is read off the slot's entry. So one code keeps both indexes, and `By` says
-// which name counts. Slot 0 may be held, so a 0 tells nothing of where the used part ends: the caller knows n.
+// An order holds slots and no names: a name is read from the slot's entry. So the same code serves both indexes, and `By` says
+// which name counts. Slot 0 may be held, so a 0 doesn't say where the used part ends: the caller knows n.
 //
 //     search.rt     By, Spot, name, find: the place of a name, or the gap that it would go into, by halving
 //     shift.rt      insert_at, remove_at: a place is opened or closed, and what stands above it moves by one
@@ -12,8 +12,8 @@
 //
 // Callers may rely on `Listed` (specs/Listed.antt): the used part is exactly the seats of the ring, by strictly ascending
 // names, and all else is 0. `enlist` and `unlist` keep it, and so does every change to a slot that is no seat or that
-// leaves the seat's name alone (proofs/Listed.antt, proofs/Names.antt). What is listed tells the whole order: two orders of
-// one length that list the same seats by the same names are equal (proofs/Once.antt).
+// leaves the seat's name alone (proofs/Listed.antt, proofs/Names.antt). The seats and their names determine the whole order: two
+// orders of one length that list the same seats by the same names are equal (proofs/Once.antt).
 mod enlisting;
 mod search;
 mod shift;

@@ -31,7 +31,7 @@ tagged = flagged 16
 abbrev pub pinned : PageRecord → Bool
 pinned p = not (eqb (p .pins) 0)
 
--- somebody else than the cache holds the page
+-- somebody other than the cache holds the page
 abbrev pub held : PageRecord → Bool
 held p = not (eqb (p .holders) 0)
 

@@ -6,9 +6,9 @@ ghost use mathlib.Core.Path.{_≡_};
 ghost use Rattle.page.specs.Cache.{created, threshold, pageOne, mayGo, counts, spillable};
 
 pub struct PageCache {
-    // How many pages insertion makes room for. Forced insertion may pass it.
+    // The most pages to hold. Forced insertion may exceed it.
     pub capacity: u32,
-    // How many pages there are.
+    // How many pages are held.
     pub held: u32,
     // Where the next sweep begins: a held slot, or 0 if nothing is held.
     pub hand: Slot,
@@ -40,7 +40,7 @@ impl PageCache {
         }
     }
 
-    // A spill may be needed if more pages than these are held, and never at or below them.
+    // A spill may be needed only if more pages than this are held.
     pub fn spill_threshold(self) -> u32
         ensures { λ r. ⌜ r ≡ threshold (self .capacity) ⌝ }
     {

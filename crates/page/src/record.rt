@@ -12,7 +12,7 @@ pub struct PageRecord {
     pub pins: u16,
     // Who else holds the page, the cache not counted.
     pub holders: u16,
-    // Cells that did not fit their page yet.
+    // Overflow cells: cells that don't fit on the page yet.
     pub cells: u8,
     // The write-ahead log's frame that the page was read from, if the page has a WAL tag.
     pub frame: u64,
@@ -36,7 +36,7 @@ impl PageRecord {
     pub const SPILLED: u8 = 8;
 
     pub const WAL_TAG: u8 = 16;
-    // All of them: a record with any other is bad.
+    // All flags together: a record with any other bit set is bad.
     pub const ALL_FLAGS: u8 = 31;
 
     pub fn is_loaded(self) -> bool

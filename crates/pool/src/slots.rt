@@ -10,7 +10,7 @@ ghost use lib.ListN.{length, getD, set};
 ghost use Rattle.pool.specs.Slots.{entries, blank};
 ghost use Rattle.pool.specs.Tells.{Tells};
 
-// What one unit of a field weighs in its word: everything below the field is less.
+// The place value of a field's lowest bit in its word. The fields below it add up to less.
 const HANDLE_UNIT: u64 = 1 << 32;
 
 const PREV_UNIT: u64 = 1 << 32;

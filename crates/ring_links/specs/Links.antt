@@ -60,13 +60,13 @@ unlinked es s =
     set (setPrev (setNext es (prevAt es s) (nextAt es s)) (nextAt es s) (prevAt es s)) s blank
 
 -- ── contracts ────────────────────────────────────────────────────────────────
--- the slots that linking s after the hand h touches are there
+-- the slots that linking s after the hand h writes exist
 pub record Linkable (es : List PageCacheEntry) (h s : ℕ) : Type 0 where
   pub slot : s < length es
   pub hand : h < length es
   pub after : nextAt es h < length es
 
--- the slots that unlinking s touches are there
+-- the slots that unlinking s writes exist
 pub record Unlinkable (es : List PageCacheEntry) (s : ℕ) : Type 0 where
   pub slot : s < length es
   pub before : prevAt es s < length es

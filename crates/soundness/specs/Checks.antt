@@ -27,14 +27,14 @@ pub record Agreeing (m : Memory) : Type 0 where
   pub some : 1 ≤ length (m .by-key)
   pub most : length (m .by-key) ≤ maxSlots
 
--- the head's numbers are such as a pool of that size can have
+-- the head's numbers are in range for a pool of that size
 pub record InRange (head : PageCache) (size : ℕ) : Type 0 where
   pub capacity : head .capacity ≤ size
   pub held : head .held ≤ size
   pub spill : head .spill ≤ 1
 
 -- ── marks ────────────────────────────────────────────────────────────────────
--- there are as many words of marks as the slots need, and a number of slots that is allowed
+-- there are as many words of marks as the slots need, and at most 4,096 slots
 pub record MarksFit (marks : List ℕ) (size : ℕ) : Type 0 where
   pub words : length marks ≡ (size + 63) / 64
   pub most : size ≤ maxSlots
@@ -47,17 +47,17 @@ pub record Beyond (marks : List ℕ) (size : ℕ) : Type 0 where
 abbrev pub unmarked : List ℕ → ℕ → Bool
 unmarked marks k = eqb (bitAt marks k) 0
 
--- one more if it is so
+-- n + 1 if the test says yes, else n
 abbrev pub tick : Bool → ℕ → ℕ
 tick true n = suc n
 tick false n = n
 
--- how many numbers below a limit the test says yes to
+-- how many numbers below a limit pass the test
 unfoldable pub countBelow : ℕ → (ℕ → Bool) → ℕ
 countBelow zero test = zero
 countBelow (suc k) test = tick (test k) (countBelow k test)
 
--- what counting the marks by words asks
+-- what counting the marks word by word requires
 pub record Countable (marks : List ℕ) (size : ℕ) : Type 0 where
   pub fit : MarksFit marks size
   pub beyond : Beyond marks size
@@ -83,7 +83,7 @@ pub record Taken (marks : List ℕ) (size s : ℕ) : Type 0 where
   pub held : bitAt marks s ≡ 0
 
 -- ── the ring ─────────────────────────────────────────────────────────────────
--- n different slots, none of them free, go round from the hand
+-- the links lead from the hand through n different slots, none of them free, and back to the hand
 pub record Walked (es : List PageCacheEntry) (marks : List ℕ) (n hand : ℕ) : Type 0 where
   pub seats : List ℕ
   pub long : length seats ≡ n
@@ -92,7 +92,7 @@ pub record Walked (es : List PageCacheEntry) (marks : List ℕ) (n hand : ℕ) :
   pub apart : Apart seats
   pub taken : All (Taken marks (length es)) seats
 
--- there is a slot to walk, and the hand is one
+-- at least one slot is held, and the hand is in range
 pub record Walkable (slots marks : List ℕ) (size n hand : ℕ) : Type 0 where
   pub readable : Readable slots marks size
   pub some : 1 ≤ n

@@ -18,7 +18,7 @@ pub fn lengths_agree(slots: &[u64], by_key: &[u32], by_handle: &[u32], marks: &[
         & (marks.len() == (size + 63) / 64)
 }
 
-// Whether the head's numbers are such as a pool of that size can have.
+// Whether the head's numbers are in range for a pool of that size.
 pub fn in_range(head: PageCache, size: u32) -> bool
     ensures { λ r. ⌜ Tells r (InRange head size) ⌝ }
 {

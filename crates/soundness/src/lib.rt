@@ -9,9 +9,9 @@
 //     sound.rt      is_sound: all of these
 //
 // `is_sound` is one pass over each part, and refuses at the first thing that is wrong. No pass compares two parts in
-// full. A walk that comes back to the hand only at its end meets no slot twice, and strictly ascending names are of
-// different slots; so ring and indexes are each as many different slots as are held, all of them unmarked. If there are
-// just as many unmarked slots, each of the three is exactly those.
+// full. A walk that comes back to the hand only at its end meets no slot twice, and slots with strictly ascending names
+// are different. So the ring and each index are `held` different slots, all of them unmarked; and if exactly `held` slots
+// are unmarked, each of the three has exactly the unmarked ones.
 //
 // Callers may rely on this: `is_sound` answers yes exactly if the memory is sound (crate memory).
 mod index;

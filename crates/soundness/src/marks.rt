@@ -5,7 +5,7 @@ ghost use lib.ListN.{length};
 ghost use Rattle.pool.specs.Tells.{Tells};
 ghost use Rattle.soundness.specs.Checks.{MarksFit, Beyond, Countable, Counted, countBelow, unmarked};
 
-// Whether no mark stands beyond the last slot. Only the last word has places for one.
+// Whether no mark stands beyond the last slot. Only the last word has bits to spare.
 fn clear_beyond(marks: &[u64], size: u32) -> bool
     requires { ⌜ MarksFit (now marks) size ⌝ }
     ensures { λ r. ⌜ Tells r (Beyond (now (marks .entry)) size) ⌝ }
@@ -31,7 +31,7 @@ fn count_held(marks: &[u64], size: u32) -> u32
     size - free
 }
 
-// Whether the marks leave as many slots held as there are said to be, and say nothing beyond the last slot.
+// Whether exactly `held` slots are unmarked, and no mark stands beyond the last slot.
 pub fn marks_agree(marks: &[u64], size: u32, held: u32) -> bool
     requires { ⌜ MarksFit (now marks) size ⌝ }
     ensures { λ r. ⌜ Tells r (Counted (now (marks .entry)) size held) ⌝ }

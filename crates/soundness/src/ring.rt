@@ -4,7 +4,7 @@ ghost use Rattle.pool.specs.Slots.{entries};
 ghost use Rattle.pool.specs.Tells.{Tells};
 ghost use Rattle.soundness.specs.Checks.{Readable, Walkable, Walked};
 
-// Whether as many slots as are held, none of them free, go round from the hand and back to it no sooner.
+// Whether the links lead from the hand through exactly `held` different slots, none of them free, and then back to the hand.
 pub fn is_ring(slots: &[u64], marks: &[u64], size: u32, held: u32, hand: Slot) -> bool
     requires { ⌜ Readable (now slots) (now marks) size ⌝ }
     ensures { λ r. ⌜ Tells r (Walked (entries (now (slots .entry))) (now (marks .entry)) held (hand .0)) ⌝ }
@@ -18,8 +18,7 @@ pub fn is_ring(slots: &[u64], marks: &[u64], size: u32, held: u32, hand: Slot) -
     goes_round(slots, marks, size, held, hand)
 }
 
-// The same for a ring that has a slot, and a hand that is one. It ends, whatever the links are, since each turn uses up
-// one of the slots that are held.
+// The same if something is held and the hand is in range. It ends whatever the links are: it takes `held` steps at most.
 fn goes_round(slots: &[u64], marks: &[u64], size: u32, held: u32, hand: Slot) -> bool
     requires { ⌜ Walkable (now slots) (now marks) size held (hand .0) ⌝ }
     ensures { λ r. ⌜ Tells r (Walked (entries (now (slots .entry))) (now (marks .entry)) held (hand .0)) ⌝ }

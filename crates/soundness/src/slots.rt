@@ -9,7 +9,7 @@ ghost use Rattle.pool.specs.Slots.{entries, blank};
 ghost use Rattle.pool.specs.Tells.{Tells};
 ghost use Rattle.soundness.specs.Checks.{Readable, ReadableAt, Filled, Proper, AllProper};
 
-// Whether the entry is such as a held slot may have.
+// Whether the entry's fields are in range for a held slot.
 fn is_filled(e: PageCacheEntry) -> bool
     ensures { λ r. ⌜ Tells r (Filled e) ⌝ }
 {
