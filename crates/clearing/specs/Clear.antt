@@ -1,4 +1,4 @@
--- Everything goes (01, rule 11).
+-- The removal of all pages (01, rule 11).
 use mathlib.Core.Path.{_≡_}
 use mathlib.Core.Bool.{Bool, true, false}
 use mathlib.Core.List.{List, [], _∷_, map}
@@ -21,7 +21,7 @@ walked slots by-key n = rowOf (entries slots) (take n by-key)
 abbrev pub handlesOf : Row → List ℕ
 handlesOf row = map (λ e. e .page .handle) row
 
--- the pages that stand against it: the dirty ones, unless they are to go too
+-- the pages that hinder it: the dirty ones, unless they are to go too
 abbrev pub hindering : Bool → Row → List Page
 hindering true row = []
 hindering false row = those (λ p. dirty (p .state)) row
@@ -33,7 +33,7 @@ pub record First (pages : List Page) (key : ℕ) : Type 0 where
   pub parts : pages ≡ page ∷ rest
   pub named : key ≡ page .key
 
--- there is none, or the first one is told
+-- the answer is the first of the pages, or nothing if there is none
 abbrev pub FirstIs : List Page → Hindrance → Type 0
 FirstIs pages Nothing = pages ≡ []
 FirstIs pages (Dirty key) = First pages (key .0)

@@ -1,4 +1,4 @@
-// Everything goes (rule 11).
+// The removal of all pages (rule 11).
 use answer::Answer;
 use answer::Answered;
 use creating::Created;
@@ -20,15 +20,15 @@ ghost use Rattle.memory.specs.Holds.{Holds, Sound};
 ghost use Rattle.answer.specs.Answer.{Ready, Wrote, Comes};
 ghost use Rattle.clearing.specs.Clear.{walked, handlesOf, hindering, FirstIs, Listable};
 
-// What stands against it that everything goes.
+// What keeps the pages from being removed.
 enum Hindrance {
     Nothing,
     // The first dirty page by ascending key.
     Dirty(PageCacheKey),
 }
 
-// Removes every page. Unless dirty pages are to go too, one of them stands against it, and then nothing goes; locks, pins
-// and holders don't.
+// Removes every page. If a page is dirty nothing is removed, unless dirty pages are to go too. Locks, pins and holders don't
+// matter.
 pub fn clear(
     slots: &mut [u64],
     by_key: &mut [u32],
@@ -50,7 +50,7 @@ pub fn clear(
     }
 }
 
-// The hindrance, if dirty pages are to go too or not.
+// Nothing, if dirty pages are to go too, and otherwise the first dirty page.
 fn what_hinders(by_key: &[u32], slots: &[u64], held: u32, dirty_too: bool) -> Hindrance
     requires { ⌜ Index (names Key (entries (now slots))) (now «by_key») held ⌝ }
     ensures { λ r. ⌜ FirstIs (hindering «dirty_too» (walked (now (slots .entry)) (now («by_key» .entry)) held)) r ⌝ }
@@ -61,7 +61,7 @@ fn what_hinders(by_key: &[u32], slots: &[u64], held: u32, dirty_too: bool) -> Hi
     first_dirty(by_key, slots, held as usize)
 }
 
-// The hindrance among the n pages of the index, if dirty pages are to stay.
+// The first dirty page of the n pages of the index, or nothing.
 fn first_dirty(by_key: &[u32], slots: &[u64], n: usize) -> Hindrance
     requires { ⌜ Index (names Key (entries (now slots))) (now «by_key») n ⌝ }
     ensures { λ r. ⌜ FirstIs (hindering false (walked (now (slots .entry)) (now («by_key» .entry)) n)) r ⌝ }

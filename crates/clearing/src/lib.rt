@@ -1,4 +1,4 @@
-// Everything goes (rule 11).
+// The removal of all pages (rule 11).
 //
 //     clearing.rt    clear    every page is listed by ascending key, and the memory is as after creation
 //

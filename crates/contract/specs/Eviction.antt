@@ -47,8 +47,8 @@ pub record OnlyCode (code₀ : ℕ) (before : State) (head : PageCache) (after :
   pub listed : r .listed ≡ 0
   pub unaltered : Unaltered before head after r
 
--- with a list of so many places: the memory is not sound (1), the list is shorter than held (3), nothing is held (14), or a page goes
--- or none may
+-- with a list of `places` places: the memory is not sound (1), the list is shorter than held (3), nothing is held (14), or a page goes
+-- (0) or none may (8)
 pub data EvictionCall (places : ℕ) (before : State) (head : PageCache) (after : State) (r : Answered) : Type 0 where
   unsound : (Sound (before .memory) head → ⊥) → OnlyCode 1 before head after r → EvictionCall places before head after r
   short : (c : Cache) → Holds (before .memory) head c → places < heldIn c → OnlyCode 3 before head after r
@@ -58,8 +58,8 @@ pub data EvictionCall (places : ℕ) (before : State) (head : PageCache) (after 
       → EvictionCall places before head after r
 
 -- ── the evictions of any call ────────────────────────────────────────────────
--- each by demand 3, and what is told and left of them: the pages passed; the handles that went, after those that the call listed before
--- them; the row that they left, or that row with a new page
+-- each by demand 3, and what the call answers and leaves of them: the pages passed; the handles that went, after those that the call
+-- listed before them; the row that they left, or that row with a new page
 pub record Evicts (x : Evicting) (before after : State) (r : Answered) : Type 0 where
   pub room : Room
   pub evictions : EvictsTo (x .target) (x .from) room

@@ -1,5 +1,5 @@
--- Demand 3's ledger, told from the memory: the touches and the falls of each call are read off what the memory held before it and
--- what it holds after it.
+-- Demand 3's ledger, read off the memory: the touches and the falls of each call follow from the cache that the memory held before it
+-- and the one that it holds after it.
 use mathlib.Core.List.{List, [], _∷_, _++_}
 use Prim.Native.Nat.{ℕ, _+_}
 use Rattle.page.specs.declared.cache.PageCache.{PageCache}

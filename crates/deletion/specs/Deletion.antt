@@ -22,13 +22,13 @@ pub record CanDelete (m : Memory) (head : PageCache) (s : ℕ) (list : List ℕ)
   pub removable : Removable m head s
   pub within : place < length list
 
--- nothing speaks against it: the cache is left without the page, whose handle stands at the place of the list
+-- the page may be deleted: the cache is left without it, and its handle stands at the place of the list
 pub record Goes (c : Cache) (p : Page) (list : List ℕ) (place : ℕ) (m′ : Memory) (list′ : List ℕ) (head′ : PageCache) : Type 0 where
   pub may : deletable (p .state) ≡ Yes
   pub holds : Holds m′ head′ (leave p c)
   pub listed : list′ ≡ set list place (p .handle)
 
--- something does: the first of locked, dirty, pinned is answered with the page's key, and nothing is altered
+-- it may not: the first of locked, dirty, pinned is answered with the page's key, and nothing is altered
 pub record Stays (p : Page) (m : Memory) (list : List ℕ) (m′ : Memory) (list′ : List ℕ) (a : Answer) : Type 0 where
   pub may-not : deletable (p .state) ≢ Yes
   pub because : a ≡ refusedAs (record { 0 = p .key }) (deletable (p .state))

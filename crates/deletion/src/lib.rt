@@ -7,7 +7,7 @@
 // `delete` asks for sound memory (crate memory) and tests the list itself, before the rule. Callers may rely on this: for
 // every cache that the memory holds at entry, it comes to the outcome of the model's `step`. The answer, the listed handle
 // and the memory at exit are those of that outcome; so a call that a test refuses has changed nothing. The other two ask for
-// a page at the slot and a place for its handle, and come to the model's `deleting`. A page that stays leaves no trace.
+// a page at the slot and a place for its handle, and come to the model's `deleting`. A refused deletion changes nothing.
 mod deletion;
 
 pub use deletion::Deletion;

@@ -48,8 +48,8 @@ pub record Sweepable (es : List PageCacheEntry) (hand : ℕ) : Type 0 where
   pub rest : List ℕ
   pub seated : Seated es (hand ∷ rest)
 
--- what the model calls a sweep that ends at slot `at`, which the rest of the seats follow: it takes the page there, or, if
--- none was found, no page
+-- the model's result of a sweep that ends at slot `at`, with the rest of the seats after it: if a page was found, the one at
+-- that slot is taken, and else none
 abbrev pub comesTo : Bool → List PageCacheEntry → ℕ → List ℕ → ℕ → Swept
 comesTo true es at rest passed = record { victim = some (seenAt es at .page); passed = passed; row = rowOf es rest }
 comesTo false es at rest passed = record { victim = none; passed = passed; row = rowOf es (at ∷ rest) }
@@ -58,12 +58,12 @@ comesTo false es at rest passed = record { victim = none; passed = passed; row =
 pub record Turned (es : List PageCacheEntry) (seats : List ℕ) (es′ : List PageCacheEntry) (at : ℕ) : Type 0 where
   pub rest : List ℕ
   pub seated : Seated es′ (at ∷ rest)
-  -- with the same slots
+  -- the slots are the same
   pub size : length (at ∷ rest) ≡ length seats
   pub same : (k : ℕ) → has k (at ∷ rest) ≡ has k seats
-  -- whose keys and handles are as they were
+  -- all keys and handles are as they were
   pub named : (by : By) → names by es′ ≡ names by es
-  -- and whose entries are within their limits, if they were before
+  -- the entries are within their limits, if they were before
   pub fine : Each Fine (rowOf es seats) → Each Fine (rowOf es′ (at ∷ rest))
 
 -- the ring begins where the sweep ended, and 4 * held looks of the model come to what the sweep says
@@ -71,6 +71,6 @@ pub record SweptFrom (es : List PageCacheEntry) (seats : List ℕ) (held : ℕ) 
   pub turned : Turned es seats es′ (r .at .0)
   pub came : looks pageMayGo (suc refMax * held) (rowOf es seats) ≡ comesTo (r .found) es′ (r .at .0) (turned .rest) (r .passed)
 
--- the same, whichever seats the ring has from the hand on
+-- the same, whatever seats the ring has from the hand on
 abbrev pub SweptAs : List PageCacheEntry → ℕ → ℕ → List PageCacheEntry → code.Swept → Type 0
 SweptAs es hand held es′ r = (rest : List ℕ) → Seated es (hand ∷ rest) → SweptFrom es (hand ∷ rest) held es′ r

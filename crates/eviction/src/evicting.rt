@@ -8,7 +8,7 @@ ghost use Rattle.memory.specs.Holds.{Holds};
 ghost use Rattle.eviction.specs.Evict.{Occupied, EvictionOf};
 
 pub enum Eviction {
-    // The page with this handle is gone, after so many others were passed. The head is the cache's from now on.
+    // The page with this handle is gone, after `passed` pages were passed. The head is the cache's from now on.
     Took {
         handle: PageHandle,
         passed: u64,

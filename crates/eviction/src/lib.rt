@@ -1,4 +1,4 @@
-// Eviction: which page goes when room is needed, and its going.
+// Eviction: which page goes when room is needed, and its removal.
 //
 // The pages stand in a ring, and the hand is at one of them. A sweep looks at one page after another from the hand on:
 //

@@ -68,7 +68,7 @@ pub fn evict_to(
     }
 }
 
-// Makes room for one page more. Capacity 0 has none to make, and is not swept.
+// Makes room for one page more. With capacity 0 there is no room to make, and no sweep is tried.
 pub fn make_room_for(
     slots: &mut [u64],
     by_key: &mut [u32],

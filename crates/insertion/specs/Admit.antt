@@ -26,8 +26,8 @@ New asked c = NewNames (asked .key .0) (asked .handle .0) (c .row)
 abbrev pub admitting : Request → Cache → Outcome
 admitting asked = admit (asked .key .0) (asked .handle .0) (asked .page) (insertionOf (asked .form))
 
--- the memory holds a cache within its limits, to which the key and the handle are new; the record is good; so many handles
--- are listed, and the list has a place more for every page that is held
+-- the memory holds a cache within its limits, to which the key and the handle are new; the record is good; the list has `listed`
+-- handles already, and after them a place for every page that is held
 pub record Admissible (m : Memory) (head : PageCache) (list : List ℕ) (listed : ℕ) (asked : Request) : Type 0 where
   pub cache : Cache
   pub holds : Holds m head cache
@@ -37,7 +37,7 @@ pub record Admissible (m : Memory) (head : PageCache) (list : List ℕ) (listed 
   pub places : listed + head .held ≤ length list
   pub few : listed + head .held ≤ maxSlots
 
--- the page is admitted as the model says, and what is evicted is listed after the handles that went before
+-- the page is admitted as the model says, and the handles of evicted pages are listed after those that the list has already
 pub record Admits (m : Memory) (head : PageCache) (list : List ℕ) (listed : ℕ) (asked : Request) (m′ : Memory) (list′ : List ℕ) (r : Answered) : Type 0 where
   pub comes : (c : Cache) (gone before : List ℕ) → Holds m head c → Kept c → New asked c → Wrote gone before list → length gone ≡ listed
       → Comes (listing gone (admitting asked c)) before m′ list′ r

@@ -35,7 +35,7 @@ pub record Found (m : Memory) (head : PageCache) (list : List ℕ) (s : ℕ) (as
   pub flags : asked .page .flags ≤ 31
   pub long : head .held ≤ length list
 
--- the page is deleted, and then as absent
+-- the page is deleted, and the new one goes in as under an absent key; or rule 8 refuses
 pub record InsertsStale (m : Memory) (head : PageCache) (list : List ℕ) (s : ℕ) (asked : Request) (m′ : Memory) (list′ : List ℕ) (r : Answered) : Type 0 where
   pub comes : (c : Cache) (e : Entry) → Holds m head c → Kept c → StandsAt (c .row) (asked .key .0) s e → Free asked c
       → Comes (deleting (e .page) (admitting asked) c) list m′ list′ r

@@ -1,7 +1,7 @@
 // The key is absent: room is made for the page, and it is placed (rules 5 and 7).
 //
 //     plain             room is made, or Full
-//     forced, upsert    room is made, or a free slot is taken over the capacity, or NoSlot
+//     forced, upsert    room is made, or a free slot is taken beyond the capacity, or NoSlot
 //
 // The memory has to hold a cache to which the key and the handle are new, and the list has to have a place for every page that is
 // held. Callers may rely on `admit` being the model's rule: its answer, the pages passed, the evicted handles, listed after those

@@ -41,8 +41,8 @@ pub fn insert(
     insert_page(slots, by_key, by_handle, marks, list, head, asked)
 }
 
-// Inserts or replaces a page, passing the capacity if no room can be made. Savepoint rollback restores pages so: each has to
-// come back, even when every page that is held is dirty.
+// Inserts or replaces a page, beyond the capacity if no room can be made. Savepoint rollback restores pages this way: each has
+// to come back, even when every page that is held is dirty.
 pub fn force_upsert_page(
     slots: &mut [u64],
     by_key: &mut [u32],
@@ -66,8 +66,8 @@ pub fn force_upsert_page(
     insert_page(slots, by_key, by_handle, marks, list, head, asked)
 }
 
-// Inserts a page, passing the capacity if no room can be made: to refuse it would free no memory, since the page is there
-// already. Later insertions bring the cache back under its capacity.
+// Inserts a page, beyond the capacity if no room can be made: to refuse it would free no memory, since the caller has the page
+// already. Later insertions bring the cache back to its capacity.
 pub fn force_insert_page(
     slots: &mut [u64],
     by_key: &mut [u32],

@@ -11,11 +11,11 @@ ghost use mathlib.Core.Path.{_≡_};
 ghost use Rattle.insertion.specs.Form.{replaces, goesIn, turnedAway};
 
 pub struct Request {
-    // The page comes under this key,
+    // The page's key.
     pub key: PageCacheKey,
-    // with this handle
+    // The page's handle.
     pub handle: PageHandle,
-    // and this record.
+    // The page's record.
     pub page: PageRecord,
     pub form: Insertion,
 }
@@ -23,14 +23,14 @@ pub struct Request {
 pub enum Insertion {
     // The page goes in only if there is room or room can be made.
     Plain,
-    // If there is none, the page goes in over the capacity, as long as a slot is free.
+    // If no room can be made, the page goes in beyond the capacity, as long as a slot is free.
     Forced,
     // The same, and a page that stands under the key is replaced.
     Upsert,
 }
 
 impl Insertion {
-    // Whether a page that is there gives way to the new one.
+    // Whether a page that stands under the key already is replaced by the new one.
     pub fn replaces(self) -> bool
         ensures { λ r. ⌜ r ≡ replaces self ⌝ }
     {

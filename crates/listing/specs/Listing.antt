@@ -28,7 +28,7 @@ numbersOf p = p .key .0 ∷ p .handle .0 ∷ p .page .flags ∷ p .page .pins �
 abbrev pub listed : Row → List ℕ
 listed row = flatMap numbersOf (pagesOf row)
 
--- a form of the listing: what it writes for a row, and how many places so many pages take
+-- a form of the listing: what it writes for a row, and how many places n pages take
 pub record Form (A : Type 0) : Type 0 where
   pub written : Row → List A
   pub places : ℕ → ℕ

@@ -24,12 +24,12 @@ valueOf (Done n) = n
 valueOf NotSound = 0
 valueOf ShortList = 0
 
--- 3: the memory is sound, and the room is less than what is needed
+-- 3: the memory is sound, and the list has less space than is needed
 pub record TooShort (m : Memory) (head : PageCache) (needed space : ℕ) : Type 0 where
   pub sound : Sound m head
   pub short : space < needed
 
--- 0: the memory is sound, there is room for what is needed, and all held pages are counted
+-- 0: the memory is sound, the list has the space that is needed, and n is the number of held pages
 pub record AllListed (m : Memory) (head : PageCache) (needed space n : ℕ) : Type 0 where
   pub sound : Sound m head
   pub room : needed ≤ space
@@ -41,7 +41,7 @@ pub data Verdict (m : Memory) (head : PageCache) (needed space : ℕ) : (code va
   not-sound : (Sound m head → ⊥) → Verdict m head needed space 1 0
   too-short : TooShort m head needed space → Verdict m head needed space 3 0
 
--- the answer that is due with space for so many pages, and as many pages to list as it says
+-- the answer for a list with space for `space` pages, and the number of pages to list, which is the answer's value
 pub record Admits (m : Memory) (head : PageCache) (space : ℕ) (a : Admission) : Type 0 where
   pub verdict : Verdict m head (head .held) space (codeOf (a .answer)) (valueOf (a .answer))
   pub count : a .count ≡ valueOf (a .answer)

@@ -13,8 +13,8 @@
 // `list_numbers` and `list_pages` take any memory: they list all held pages, or refuse with document 01's answer 1 or 3 and
 // alter nothing. `list_pool` and `list_records` are the same without the tests, for callers who know their memory and
 // their list. No function here changes the memory, and places of the list past the pages keep their values. What is said of
-// the two forms is said once, of a `Form` (specs/Listing.antt), and two outcomes that the contract of `list_numbers` or
-// `list_pages` allows are one (proofs/Outcomes.antt).
+// the two forms is said once, of a `Form` (specs/Listing.antt). The contracts of `list_numbers` and `list_pages` are
+// deterministic (proofs/Outcomes.antt).
 mod listed;
 mod numbers;
 mod records;

@@ -29,7 +29,7 @@ fn put_page(list: &mut [u64], at: usize, p: ListedPage)
     list[at + 7] = p.uses as u64;
 }
 
-// Lists the pages that stand in so many slots, from `hand` on.
+// Lists `count` pages of the ring, from slot `hand` on.
 pub fn list_pool(slots: &[u64], hand: Slot, count: usize, list: &mut [u64])
     requires { ⌜ Listable inNumbers (now slots) (hand .0) count (now list) ⌝ }
     ensures { λ _. ⌜ Lists inNumbers (now (slots .entry)) (hand .0) count (now (list .entry)) (now (list .exit)) ⌝ }

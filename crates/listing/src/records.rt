@@ -11,7 +11,7 @@ ghost use Rattle.memory.specs.Memory.{memories};
 ghost use Rattle.listing.specs.Listing.{inRecords, Listable, Lists};
 ghost use Rattle.listing.specs.Outcome.{Comes};
 
-// Lists the pages that stand in so many slots, from `hand` on.
+// Lists `count` pages of the ring, from slot `hand` on.
 pub fn list_records(slots: &[u64], hand: Slot, count: usize, list: &mut [ListedPage])
     requires { ⌜ Listable inRecords (now slots) (hand .0) count (now list) ⌝ }
     ensures { λ _. ⌜ Lists inRecords (now (slots .entry)) (hand .0) count (now (list .entry)) (now (list .exit)) ⌝ }

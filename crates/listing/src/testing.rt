@@ -14,14 +14,14 @@ pub enum Listing {
     ShortList,
 }
 
-// The answer to be given, and how many pages to list for it. A refused listing lists none: whoever lists so many pages
-// need not ask whether it was refused.
+// The answer, and how many pages to list. For a refused listing that is 0, so that `count` pages can be listed without asking
+// whether it was refused.
 pub struct Admission {
     pub answer: Listing,
     pub count: usize,
 }
 
-// Tests the memory, and whether a list with room for so many pages has room for the held ones.
+// Tests the memory, and whether a list with room for `room` pages has room for the held ones.
 pub fn admit(
     slots: &[u64],
     by_key: &[u32],

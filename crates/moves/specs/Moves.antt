@@ -35,18 +35,18 @@ pub record KeyAt (row : Row) (key s : ℕ) : Type 0 where
   pub entry : Entry
   pub stands : StandsAt row key s entry
 
--- the slot of the entry under the key, or that there is none
+-- the answer is the slot of the entry under the key, or that there is none
 abbrev pub SeatIs : Row → ℕ → Seat → Type 0
 SeatIs row key (At s) = KeyAt row key (s .0)
 SeatIs row key Absent = find key row ≡ none
 
--- whichever memory with these slots and this index by key holds a cache, with so many pages held
+-- the answer is right for every cache of `held` pages that a memory with these slots and this index by key holds
 abbrev pub Seats : (by-key slots : List ℕ) (held key : ℕ) → Seat → Type 0
 Seats by-key slots held key r =
     (by-handle marks : List ℕ) (head : PageCache) (c : Cache) → Holds (memoryOf slots by-key by-handle marks) head c → head .held ≡ held
     → SeatIs (c .row) key r
 
--- the same with an index by handle: the answer to the test for code 12
+-- the same for an index by handle: the answer is that of the test for code 12
 abbrev pub TestsHandle : (by-handle slots : List ℕ) (held key handle : ℕ) → Bool → Type 0
 TestsHandle by-handle slots held key handle r =
     (by-key marks : List ℕ) (head : PageCache) (c : Cache) → Holds (memoryOf slots by-key by-handle marks) head c → head .held ≡ held
@@ -84,7 +84,7 @@ abbrev pub Places : Memory → PageCache → (key handle : ℕ) → PageRecord �
 Places m head key handle page m′ head′ =
     (c : Cache) → Holds m head c → NewNames key handle (c .row) → Holds m′ head′ (enter (newPage key handle page c) c)
 
--- the slots that putting an entry in at slot s touches are there
+-- the slots that putting an entry in at slot s writes exist
 pub record Seatable (es : List PageCacheEntry) (head : PageCache) (s : ℕ) : Type 0 where
   pub slot : s < length es
   pub linkable : head .held ≢ 0 → Linkable es (head .hand .0) s
@@ -97,7 +97,7 @@ Touches slots s slots′ =
     → Holds (memoryOf slots by-key by-handle marks) head c → StandsAt (c .row) key s e
     → Holds (memoryOf slots′ by-key by-handle marks) head (touch key c)
 
--- the slot is there, and the record is good
+-- the slot exists, and the record is good
 pub record Rewritable (slots : List ℕ) (s : ℕ) (page : PageRecord) : Type 0 where
   pub slot : s < length (entries slots)
   pub flags : page .flags ≤ 31

@@ -14,13 +14,13 @@ pub record Relistable (col order : List ℕ) (n s old new : ℕ) (before after :
   pub named : getD col s 0 ≡ old
   pub free : Absent col (before ++ after) new
 
--- for some seats
+-- it does so for some seats
 pub record CanRelist (col order : List ℕ) (n s old new : ℕ) : Type 0 where
   pub before : List ℕ
   pub after : List ℕ
   pub relistable : Relistable col order n s old new before after
 
--- for whichever seats, it lists them once s has the name `new`
+-- whatever these seats are: the order now lists them, and s has the name `new`
 abbrev pub Relisted : (col order : List ℕ) (n s old new : ℕ) (order′ : List ℕ) → Type 0
 Relisted col order n s old new order′ =
     (before after : List ℕ) → Relistable col order n s old new before after → Listed (set col s new) order′ (before ++ s ∷ after)

@@ -56,7 +56,7 @@ pub fn replace_at(
     after
 }
 
-// Lists slot s of an index of n slots under another handle. Under the handle that it has, it stays listed.
+// Moves slot s, in an index of n slots, to the place of its new handle. If the handle is the old one, nothing is done.
 fn relist(by_handle: &mut [u32], slots: &[u64], n: usize, s: Slot, old: PageHandle, new: PageHandle)
     requires { ⌜ CanRelist (names Handle (entries (now slots))) (now «by_handle») n (s .0) (old .0) (new .0) ⌝ }
     ensures { λ _. ⌜ Relisted (names Handle (entries (now (slots .entry)))) (now («by_handle» .entry)) n (s .0) (old .0) (new .0) (now («by_handle» .exit)) ⌝ }

@@ -32,7 +32,7 @@ pub fn remove_at_slot(
     head_without(head, s, after, estimate)
 }
 
-// The head after the page at slot s went, after which stood slot `after`.
+// The head after the page at slot s went; `after` is the slot that followed it in the ring.
 fn head_without(head: PageCache, s: Slot, after: Slot, estimate: u32) -> PageCache
     requires { ⌜ 1 ≤ head .held ⌝ }
     ensures { λ r. ⌜ r ≡ headWithout head (s .0) (after .0) estimate ⌝ }

@@ -16,7 +16,7 @@ abbrev pub noticed : Option Entry → Bool
 noticed none = false
 noticed (some e) = not (pageOne (e .page .key))
 
--- whichever memory with these slots and this index by key holds a cache, with so many pages held
+-- the answer is right for every cache of `held` pages that a memory with these slots and this index by key holds
 abbrev pub Notices : (slots by-key : List ℕ) (held key : ℕ) → Bool → Type 0
 Notices slots by-key held key r =
     (by-handle marks : List ℕ) (head : PageCache) (c : Cache) → Holds (memoryOf slots by-key by-handle marks) head c → head .held ≡ held

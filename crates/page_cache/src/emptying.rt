@@ -7,7 +7,7 @@ ghost use Rattle.model.specs.Call as call;
 ghost use Rattle.memory.specs.Memory.{memories};
 ghost use Rattle.contract.specs.Called.{lent, Called};
 
-// Removes every page; unless told to take dirty ones too, nothing if one is dirty.
+// Removes every page. If one is dirty it removes nothing, unless it is told to remove dirty pages too.
 pub fn clear(
     slots: &mut [u64],
     by_key: &mut [u32],

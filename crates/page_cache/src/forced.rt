@@ -10,7 +10,7 @@ ghost use Rattle.model.specs.Call as call;
 ghost use Rattle.memory.specs.Memory.{memories};
 ghost use Rattle.contract.specs.Called.{lent, Called};
 
-// Inserts a page, beyond the capacity if no room can be made. Refusing it could reclaim nothing: the page is there already.
+// Inserts a page, beyond the capacity if no room can be made. To refuse it would free no memory, since the caller has the page already.
 pub fn force_insert_page(
     slots: &mut [u64],
     by_key: &mut [u32],

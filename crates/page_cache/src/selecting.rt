@@ -8,7 +8,7 @@ ghost use Rattle.model.specs.Call as call;
 ghost use Rattle.memory.specs.Memory.{memories};
 ghost use Rattle.contract.specs.Called.{lent, Called};
 
-// Whether a spill is needed, and if so the handles of the first pages by key that can be spilled, at most so many.
+// Whether a spill is needed, and if so the handles of the first pages by key that can be spilled, `most` of them at most.
 pub fn check_spill(
     slots: &[u64],
     by_key: &[u32],

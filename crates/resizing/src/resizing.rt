@@ -15,8 +15,8 @@ ghost use Rattle.memory.specs.Holds.{Holds, Sound};
 ghost use Rattle.answer.specs.Answer.{Comes};
 ghost use Rattle.resizing.specs.Resize.{Resizable, resizedAs};
 
-// Sets the capacity, once no more pages are held than it allows. If some are left that may not go, the capacity stays as
-// it was, and those that went are gone all the same.
+// Evicts until no more pages are held than the new capacity, and sets it. If none of those that are left may go, the capacity
+// stays as it was, and the evictions stand.
 pub fn resize(
     slots: &mut [u64],
     by_key: &mut [u32],

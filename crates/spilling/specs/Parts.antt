@@ -10,11 +10,11 @@ use Rattle.memory.specs.Memory.{Memory, Lent}
 use Rattle.memory.specs.Holds.{Sound}
 use Rattle.answer.specs.Answer.{Wrote}
 
--- the memory that these two lent parts make with whatever else belongs to it
+-- the memory of these two lent parts and the other two
 abbrev pub joined : Lent → Lent → (by-handle marks : List ℕ) → Memory
 joined slots by-key by-handle marks = record { slots = slots .now; by-key = by-key .now; by-handle = by-handle; marks = marks }
 
--- they are parts of a sound memory that holds so many pages
+-- they are parts of a sound memory that holds `held` pages
 pub record Readable (slots by-key : List ℕ) (held : ℕ) : Type 0 where
   pub by-handle : List ℕ
   pub marks : List ℕ
@@ -32,7 +32,7 @@ pub record Place (slots by-key : List ℕ) (i : ℕ) : Type 0 where
   pub within : i < length by-key
   pub slot : getD by-key i 0 < length (entries slots)
 
--- the handles of the pages stand in the first places of the list, and so many they are
+-- the handles of the pages stand in the first places of the list, and r is their number
 pub record Selected (pages : List Page) (before after : List ℕ) (r : ℕ) : Type 0 where
   pub number : r ≡ length pages
   pub wrote : Wrote (map (λ p. p .handle) pages) before after

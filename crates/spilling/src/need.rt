@@ -11,7 +11,7 @@ ghost use Rattle.model.specs.Spill.{needsSpill};
 ghost use Rattle.memory.specs.Holds.{Holds};
 ghost use Rattle.spilling.specs.Parts.{joined, Readable};
 
-// Whether so many pages are held, and so few of them may go, that dirty ones should be written out.
+// Whether dirty pages should be written out, since too many pages are held and too few of them may go.
 pub fn needs_spill(slots: &[u64], by_key: &[u32], head: PageCache) -> bool
     requires { ⌜ Readable (now slots) (now «by_key») (head .held) ⌝ }
     ensures { λ r. ⌜ ((by-handle marks : List ℕ) (c : Cache) → Holds (joined (slots .entry) («by_key» .entry) by-handle marks) head c → r ≡ needsSpill c) ⌝ }
@@ -21,7 +21,7 @@ pub fn needs_spill(slots: &[u64], by_key: &[u32], head: PageCache) -> bool
         return false;
     }
     let needed = head.held - threshold;
-    // The estimate may have any value of 32 bits, so the room that it promises takes more.
+    // The estimate may have any value of 32 bits, so the sum takes more than 32.
     let room = head.estimate as u64 + empty_slots(head) as u64;
     if needed as u64 <= room {
         return false;
@@ -29,7 +29,7 @@ pub fn needs_spill(slots: &[u64], by_key: &[u32], head: PageCache) -> bool
     count_evictable_pages(slots, by_key, head.held) < needed
 }
 
-// How many pages may come in before one has to go.
+// How many pages can be inserted before one has to be evicted.
 fn empty_slots(head: PageCache) -> u32
     ensures { λ r. ⌜ r ≡ head .capacity - head .held ⌝ }
 {

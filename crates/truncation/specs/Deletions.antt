@@ -28,12 +28,12 @@ pageAt slots by-key i = seen (getD by-key i 0) (getD (entries slots) (getD by-ke
 abbrev pub NoneBefore : (slots by-key : List ℕ) → Which → ℕ → Type 0
 NoneBefore slots by-key which from = (k : ℕ) → k < from → chooses which (pageAt slots by-key k) ≡ false
 
--- the place is one of the first n, or the next, and no key before it is above the limit
+-- the place is at most n, and no key before it is above the limit
 pub record FirstAbove (slots by-key : List ℕ) (n limit from : ℕ) : Type 0 where
   pub within : from ≤ n
   pub none : NoneBefore slots by-key (KeysAbove limit) from
 
--- the memory is sound and the list is as long as held; nothing is to be done before place `from`
+-- the memory is sound and the list is as long as held; no page before place `from` is chosen
 pub record Walkable (m : Memory) (head : PageCache) (list : List ℕ) (which : Which) (from : ℕ) : Type 0 where
   pub ready : Ready m head list
   pub within : from ≤ head .held

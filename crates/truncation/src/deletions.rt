@@ -90,7 +90,7 @@ pub fn delete_clean_pages_after_wal_frame(
     )
 }
 
-// The place from which on keys may be above the limit: none before it is.
+// A place of the index before which no key is above the limit.
 fn first_above(by_key: &[u32], slots: &[u64], held: u32, limit: u64) -> usize
     requires { ⌜ Index (names Key (entries (now slots))) (now «by_key») held ⌝ }
     ensures { λ r. ⌜ FirstAbove (now (slots .entry)) (now («by_key» .entry)) held limit r ⌝ }
