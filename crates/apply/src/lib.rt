@@ -1,10 +1,10 @@
 // A replay record applied to any memory: its bytes are read, the memory is tested if a call is asked for, and it is carried
 // out. This is document 01's replay program without its reading and writing.
 //
-// `apply` asks nothing of what it is lent. Callers may rely on `Applied` (specs/Applied.antt): bytes that ask for nothing good
-// are answered with 17 and alter nothing; a creation does what `Creates` says; a call does what `Called` says, which is 1 and
-// nothing altered on memory that is not sound, and the model's step on memory that is. Two outcomes that it allows are the
-// same outcome (`applied-same` in proofs/Same.antt).
+// `apply` asks nothing of what it is lent. Callers may rely on `Applied` (specs/Applied.antt): a bad record is answered with 17
+// and alters nothing; a creation does what `Creates` says; a call does what `Called` says, which is 1 and nothing altered on
+// memory that is not sound, and the model's step on memory that is. `Applied` is deterministic (`applied-same` in
+// proofs/Same.antt).
 use answer::Answer;
 use answer::Answered;
 use dispatch::dispatch;
@@ -40,7 +40,7 @@ pub fn apply(
     dispatch(slots, by_key, by_handle, marks, list, head, asked)
 }
 
-// Whether the operation may be carried out: a creation on any memory, and a call on sound memory. What is neither is refused
+// Whether the operation may be carried out: a creation on any memory, and a call on sound memory. Any other operation is refused
 // later, whatever the memory.
 fn is_ready(
     slots: &[u64],

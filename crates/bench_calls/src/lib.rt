@@ -2,8 +2,8 @@
 // program that replays traces has no use for this, since it gets no answers.
 //
 // `pc_bench_run` asks nothing of what it is lent: memory that is not sound is answered with 1 and a head of another length with
-// 16, and nothing is done. Nothing else is said of it. Each record is carried out by `dispatch`, whose contract says what it does
-// and leaves the memory sound for the next one.
+// 16, and nothing is done. Its contract says no more than that. Each record is carried out by `dispatch`, whose contract says what it
+// does, and that the memory stays sound for the next one.
 use c_numbers::put_head;
 use c_numbers::read_head;
 use dispatch::dispatch;

@@ -20,7 +20,7 @@ numbersOf h = h .capacity ∷ h .held ∷ h .hand .0 ∷ h .spill ∷ h .estimat
 abbrev pub fits : List ℕ → Bool
 fits l = ltb (getD l 0 0) (2 ^ 32) && ltb (getD l 1 0) (2 ^ 32) && ltb (getD l 2 0) (2 ^ 32) && ltb (getD l 3 0) (2 ^ 8) && ltb (getD l 4 0) (2 ^ 32)
 
--- what numbers that are no head are read as: no memory is sound with it, since the switch is 0 or 1
+-- the head that numbers out of range are read as: no memory is sound with it, since its switch is neither 0 nor 1
 abbrev pub noHead : PageCache
 noHead = record { capacity = 0; held = 0; hand = record { 0 = 0 }; spill = 2; estimate = 0 }
 
@@ -37,7 +37,7 @@ fieldsOf l = record {
 abbrev pub headOf : List ℕ → PageCache
 headOf l = cond (fits l) (fieldsOf l) noHead
 
--- the numbers after a call: the head that it answers; numbers that are no head stay, unless a creation was made
+-- the numbers after a call: those of the head that it hands back; numbers that are no head stay as they are, unless a creation was made
 abbrev pub headAfter : List ℕ → Answered → List ℕ
 headAfter l r = cond (fits l || eqb (codeOf (r .answer)) 0) (numbersOf (r .head)) l
 
@@ -55,7 +55,7 @@ abbrev pub answerOf : List PageCacheEntry → Answered → List ℕ
 answerOf es r =
     codeOf (r .answer) ∷ valueOf (r .answer) ∷ r .passed ∷ r .head .held ∷ handKey es (r .head) ∷ r .listed ∷ []
 
--- what a cache says of its hand: the key of the first page in sweep order, or none
+-- the key of the first page in sweep order, which is the hand's, or none
 abbrev pub firstKey : Row → ℕ
 firstKey [] = none
 firstKey (e ∷ row) = e .page .key

@@ -14,7 +14,7 @@ ghost use Rattle.c_numbers.specs.Put.{PutAnswer};
 // No key: one above the largest.
 const NONE: u64 = 1 << 32;
 
-// The key of the hand's page, or none if nothing is held. The hand of sound memory is a slot; any other has no page.
+// The key of the hand's page, or none if nothing is held. The hand of sound memory is a slot of it; a hand out of range has no page.
 fn hand_key(slots: &[u64], head: PageCache) -> u64
     ensures { λ r. ⌜ r ≡ handKey (entries (now (slots .entry))) head ⌝ }
 {

@@ -8,7 +8,7 @@
 //     answers.rt   put_answer; the code of a listing
 //
 // They stand in a crate of their own, so that they are proved without the calls. A head has to be of five numbers and an answer of
-// six; their contents may be any. Numbers that are no head are read as one that no memory is sound with. Callers may rely on
+// six, with any contents. Numbers that are no head are read as a head with which no memory is sound. Callers may rely on
 // specs/Head.antt and specs/Put.antt, and on this: the hand's key in an answer is that of the first page in sweep order, if the
 // memory holds a cache (proofs/Hand.antt).
 mod answers;

@@ -18,7 +18,7 @@ pub fn first_outside(image: &[u8], array: usize, count: usize, start: usize, end
     let mut at = array;
     while i < count {
         let pointer = half_at(image, at);
-        // One test for both bounds: what lies before the start wraps to more than any room.
+        // One test for both bounds: the difference of a pointer before the start wraps, and is then above any room.
         if wrapping_sub_usize(pointer, start) >= room {
             return Place::At(i);
         }

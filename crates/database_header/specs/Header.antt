@@ -46,14 +46,14 @@ Holds b page-size = isPageSize (pageSize b) ≡ true
 Holds b usable-size = 480 ≤ pageSize b - reserved b
 
 -- ── the answer ───────────────────────────────────────────────────────────────
--- so many rules come before the one that a fault is of
+-- how many rules come before the one that the fault breaks
 abbrev pub before : Fault → ℕ
 before Length = 0
 before (Magic at) = 1
 before PageSize = 2
 before UsableSize = 3
 
--- the rule fails; the magic string first at that byte
+-- the rule fails; for the magic string, that byte is the first that differs
 abbrev pub Fails : List ℕ → Fault → Type 0
 Fails b Length = Holds b whole → ⊥
 Fails b (Magic at) = First (LikeMagic b) 16 at

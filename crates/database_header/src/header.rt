@@ -13,7 +13,7 @@ ghost use Rattle.database_header.specs.Header.{pageSize, Opens};
 pub struct Database {
     // In bytes: a power of two from 512 to 65,536, if `open` gave it.
     pub page_size: u32,
-    // So many bytes at the end of a page are not the database's; 480 or more are left.
+    // The number of bytes at the end of each page that are reserved; 480 or more are left.
     pub reserved: u8,
 }
 
@@ -21,10 +21,10 @@ pub struct Database {
 pub enum Fault {
     // Fewer than 100 bytes.
     Length,
-    // The first byte that is unlike.
+    // The first byte that differs from the magic string.
     Magic(usize),
     PageSize,
-    // Fewer than 480 bytes are left of a page without those reserved.
+    // Fewer than 480 bytes of a page remain without the reserved ones.
     UsableSize,
 }
 

@@ -28,7 +28,7 @@ answeredAs (created.Done new) head = plainly (Done 0) new
 answeredAs created.BadLengths head = plainly BadLengths head
 answeredAs created.TooLarge head = plainly TooLarge head
 
--- the memory is that of a new cache, or nothing is altered; and it is answered so
+-- the memory is that of a new cache, or nothing is altered; and the answer says which
 pub record Makes (capacity : ℕ) (m : Memory) (head : PageCache) (m′ : Memory) (r : Answered) : Type 0 where
   pub made : Created
   pub creates : Creates m capacity made m′
@@ -39,7 +39,7 @@ pub record Creation (capacity : ℕ) (before : State) (head : PageCache) (after 
   pub makes : Makes capacity (before .memory) head (after .memory) r
   pub list : after .list ≡ before .list
 
--- ── nothing good is asked for ────────────────────────────────────────────────
+-- ── a bad record ─────────────────────────────────────────────────────────────
 -- 17, and nothing is altered
 pub record Refuses (before : State) (head : PageCache) (after : State) (r : Answered) : Type 0 where
   pub state : after ≡ before
@@ -52,6 +52,6 @@ Runs (creation capacity) before head after r = Creation capacity before head aft
 Runs (call x) before head after r =
     (c : Cache) → Holds (before .memory) head c → Comes (step x c) (before .list) (after .memory) (after .list) r
 
--- the contract of `dispatch`: what a record asks for, with a list of so many places, runs
+-- the contract of `dispatch`: what the record asks for, with a list of that length, is carried out
 pub record Ran (asked : Record) (before : State) (head : PageCache) (after : State) (r : Answered) : Type 0 where
   pub runs : Runs (requestOf asked (length (before .list))) before head after r

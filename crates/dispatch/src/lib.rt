@@ -5,7 +5,7 @@
 //
 // Callers see to it that the memory is sound if the operation is a call, 1 to 16 (`Runnable`, specs/Runs.antt): one test may
 // stand before many records. They may rely on `Ran`: a call comes to the model's step, a creation to what `Creates` says, and
-// an operation that is none is answered with 17 and alters nothing.
+// an operation above 16 is answered with 17 and alters nothing.
 mod creation;
 mod operations;
 

@@ -24,7 +24,7 @@ ghost use Rattle.memory.specs.Memory.{memory, memories};
 ghost use Rattle.contract.specs.Called.{lent};
 ghost use Rattle.dispatch.specs.Runs.{Runnable, Ran};
 
-// Carries out what a record asks for. An operation above 16 asks for nothing.
+// Carries out what a record asks for. An operation above 16 is answered with 17.
 pub fn dispatch(
     slots: &mut [u64],
     by_key: &mut [u32],

@@ -1,4 +1,4 @@
--- What the walk along a chain asks.
+-- What the walk along a chain requires.
 use mathlib.Core.List.{List}
 use Prim.Native.Nat.{ℕ, _+_, _≤_}
 use lib.ListN.{length}

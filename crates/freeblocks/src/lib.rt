@@ -2,18 +2,18 @@
 //
 //     | next block 2 | size 2 | .. |      a freeblock: both numbers big-endian; no next block: 0
 //
-// Callers may rely on `first_bad` for any bytes of the page: a chain that goes round, back or into the header is bad where it first
-// does so. It ends, since each block that it goes on from lies after the end of the one before.
+// Callers may rely on `first_bad` for any bytes of the page: a chain is bad at the first link that goes back, or to where no block may
+// stand. The walk ends, since each block lies after the end of the one before.
 use page_format::Place;
 use page_format::half_at;
 ghost use Rattle.page_format.specs.Rules.{Chain};
 ghost use Rattle.freeblocks.specs.Chained.{Linked};
 
-// A block's link and its size.
+// The bytes of a block's link and size: no block is smaller.
 const LEAST_BLOCK: usize = 4;
 
-// The place of the first bad link or size of the chain that goes on with the link at a place. Its blocks lie from `least` to `end`,
-// the usable end.
+// The place of the first bad link or size of the chain that begins with the link at `link`. Its blocks have to lie from `least` on and
+// end by `end`, the usable end.
 pub fn first_bad(image: &[u8], end: usize, link: usize, least: usize) -> Place
     requires { ⌜ Linked (now image) end link ⌝ }
     ensures { λ r. ⌜ Chain (now (image .entry)) end link least r ⌝ }

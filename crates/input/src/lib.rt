@@ -3,8 +3,8 @@
 //     opening.rt   the file that an argument names
 //     reading.rt   a piece of it into memory
 //
-// Callers may rely on what is told of a failure: where no file can be opened its reason has been written to standard error, and a
-// read that failed is told from the input's end.
+// Callers may rely on this: if the file can't be opened the reason has been written to standard error, and a read that failed is
+// not taken for the input's end.
 mod opening;
 mod reading;
 

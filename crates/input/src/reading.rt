@@ -4,7 +4,7 @@ ghost use lib.ListN.{length};
 
 // What was read.
 pub struct Filled {
-    // So many bytes, fewer than asked for where the input ends or a read fails.
+    // The number of bytes, fewer than asked for if the input ends or a read fails.
     pub count: usize,
     pub failed: bool,
 }

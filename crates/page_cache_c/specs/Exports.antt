@@ -1,4 +1,4 @@
--- What the exported functions do. Each case says the code and all that was lent, after it.
+-- What the exported functions do. Each case says the code, and everything that was lent as it is after the call.
 use mathlib.Core.Path.{_≡_}
 use mathlib.Core.List.{List}
 use Prim.Native.Nat.{ℕ}
@@ -38,7 +38,7 @@ pub data Lists (m : Memory) (head list list′ : List ℕ) (code : ℕ) : Type 0
       → code ≡ listing.codeOf answer → Lists m head list list′ code
 
 -- ── pc_apply ─────────────────────────────────────────────────────────────────
--- the head and the answer have the lengths that they have to have
+-- the head and the answer have the right lengths
 pub record Fit (h a : List ℕ) : Type 0 where
   pub head : length h ≡ 5
   pub answer : length a ≡ 6

@@ -8,9 +8,9 @@
 //
 // Each is one call of a proved function that takes any memory, with the head read before it and written after it. There are no
 // rules here, and crate c_numbers has heads and answers as numbers. Callers may rely on specs/Exports.antt. Each function answers
-// with document 01's code. A head or an answer of another length than it has to have is 16, whatever is called, and nothing is
-// looked at. Numbers that are no head are read as one that makes the memory unsound, so that a call answers 1 and a creation can
-// still be made.
+// with document 01's code. A head that is not of 5 numbers, or an answer that is not of 6, is 16 for every function, and nothing else
+// is looked at. Numbers that are no head are read as a head with which no memory is sound, so that a call answers 1 and a creation
+// can still be made.
 use apply::apply;
 use c_numbers::listing_code;
 use c_numbers::put_answer;

@@ -43,7 +43,7 @@ fn check_database(fd: i32, says: &[u8], piece: &mut [u8; PIECE], database: Datab
 
 // The system says that it can't go to the place where the page begins.
 fn unsought(says: &[u8], number: u32) {
-    // The place is past the end of any file that can stand there.
+    // The offset is larger than any file of this file system can be.
     if os::errno() == libc::EINVAL {
         messages::no_such_page(says, number);
     } else {

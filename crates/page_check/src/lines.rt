@@ -24,7 +24,7 @@ pub fn put_sizes(out: &mut [u8; ROOM], at: usize, database: Database) -> usize
     put_words(out, reserved, b" bytes\n")
 }
 
-// So many bytes of the page were there to be checked.
+// The line of a page. `count` is how many of its bytes the file has.
 pub fn put_page(
     out: &mut [u8; ROOM],
     at: usize,

@@ -16,7 +16,7 @@ ghost use lib.ListN.{length};
 // The largest page.
 pub const PIECE: usize = 65536;
 
-// What stands where the check has come to.
+// What was found at the next place of the file.
 enum Found {
     // What is said of the page, and how many of its bytes are there.
     Page(Checked, usize),
@@ -25,8 +25,8 @@ enum Found {
     Unread,
 }
 
-// Checks the pages from the place on where `fd` stands, which is the first's. Each page's line is put as it is read, and what was
-// counted at the end.
+// Checks the pages from the first that is asked for, at which `fd` stands. Each page's line is put as it is read, and the totals at
+// the end.
 pub fn check_pages(fd: i32, says: &[u8], piece: &mut [u8; PIECE], database: Database, pages: Pages)
     requires { ⌜ database .«page_size» ≤ 65536 ⌝ }
     requires { ⌜ pages .last ≤ 4294967294 ⌝ }
@@ -89,7 +89,7 @@ fn finish(says: &[u8], out: &mut [u8; ROOM], at: usize, pages: Pages, totals: To
     requires { ⌜ totals .yes + totals .no ≤ 4294967295 ⌝ }
 {
     if let Found::Unread = found {
-        // First of all: the reason is that of the last call that failed.
+        // Before anything else is called: the reason is that of the last call of the system that failed.
         os::fail(says);
         write_first(out, at);
         return;

@@ -9,7 +9,7 @@ use lib.ListN.{getD}
 pub record Page : Type 0 where
   pub image : List ℕ
   pub number : ℕ
-  -- of a page, and of what is reserved at its end, in bytes
+  -- the page size, and how much of it is reserved at the page's end, in bytes
   pub size : ℕ
   pub reserved : ℕ
 

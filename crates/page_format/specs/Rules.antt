@@ -13,19 +13,19 @@ use Rattle.page_format.specs.declared.answer.Fault.the-variants.{Length,
 use Rattle.page_format.specs.declared.answer.Checked.{Checked}
 use Rattle.page_format.specs.declared.answer.Checked.the-variants.{Yes, No}
 
--- ── some things, one after another ───────────────────────────────────────────
--- all of some rules hold
+-- ── all hold, or the first that fails ────────────────────────────────────────
+-- all rules of the list hold
 abbrev pub All : {Rule : Type 0} (Holds : Rule → Type 0) → List Rule → Type 0
 All Holds [] = Unit {0}
 All Holds (rule ∷ rest) = Holds rule × All Holds rest
 
--- the first of so many that is not fine
+-- i is the first number below `many` that is not fine
 pub record First (Fine : ℕ → Type 0) (many i : ℕ) : Type 0 where
   pub below : i < many
   pub bad : Fine i → ⊥
   pub before : (j : ℕ) → j < i → Fine j
 
--- a search for it
+-- what a search for it answers: its place, or Nowhere if all are fine
 abbrev pub Finds : (Fine : ℕ → Type 0) (many : ℕ) → Place → Type 0
 Finds Fine many Nowhere = (i : ℕ) → i < many → Fine i
 Finds Fine many (At i) = First Fine many i
@@ -41,18 +41,18 @@ pub record Sized (end block size : ℕ) : Type 0 where
   pub large : 4 ≤ size
   pub within : block + size ≤ end
 
--- what the chain comes to that goes on with the link at a place and whose blocks lie from `least` on: Nowhere if no block is bad, else
--- the place of the first bad link or size
+-- what is found in the chain that begins with the link at `link`, and whose blocks have to lie from `least` on: the place of the first
+-- bad link or size, or Nowhere if there is none
 pub data Chain (b : List ℕ) (end : ℕ) : (link least : ℕ) → Place → Type 0 where
   -- 'or zero if the freeblock is the last on the chain'
   ends : {link least : ℕ} → half b link ≡ 0 → Chain b end link least Nowhere
   -- a link to where no block may stand
   bad-link : {link least : ℕ} → (half b link ≡ 0 → ⊥) → (Placed end least (half b link) → ⊥) → Chain b end link least (At link)
-  -- a block of a size that it can't have there
+  -- a block that is too small, or that ends past the usable end
   bad-size : {link least : ℕ} → (half b link ≡ 0 → ⊥) → Placed end least (half b link)
       → (Sized end (half b link) (half b (sizeAt (half b link))) → ⊥)
       → Chain b end link least (At (sizeAt (half b link)))
-  -- a good block, after whose end the others lie: 'in order of increasing offset'
+  -- a good block; the others have to lie after its end: 'in order of increasing offset'
   goes-on : {link least : ℕ} {place : Place} → (half b link ≡ 0 → ⊥) → Placed end least (half b link)
       → Sized end (half b link) (half b (sizeAt (half b link)))
       → Chain b end (half b link) (half b link + half b (sizeAt (half b link))) place
@@ -104,7 +104,7 @@ Holds p fragmented-bytes = fragments p ≤ 60
 Holds p cell-pointers = (i : ℕ) → i < cells p → PointsInside p i
 
 -- ── the answer ───────────────────────────────────────────────────────────────
--- so many rules come before the one that a fault is of
+-- how many rules come before the one that the fault breaks
 abbrev pub before : Fault → ℕ
 before Length = 0
 before PageSize = 1
@@ -120,12 +120,12 @@ before (CellPointer at) = 9
 abbrev pub broken : Fault → Rule
 broken f = getD rules (before f) same-length
 
--- a rule of one field fails, and the field stands at the place
+-- a rule about one field fails, and the place is that field's
 pub record Breaks (p : Page) (rule : Rule) (field at : ℕ) : Type 0 where
   pub fails : Holds p rule → ⊥
   pub stands : at ≡ field
 
--- the first unlike byte of page 1
+-- the first byte of page 1 that differs from the magic string
 pub record Unlike (p : Page) (at : ℕ) : Type 0 where
   pub page1 : p .number ≡ 1
   pub first : First (LikeMagic (p .image)) 16 at

@@ -6,16 +6,16 @@ pub enum Place {
     At(usize),
 }
 
-// The rules, in the document's field order, each with the offset in the page of the field that breaks it. Sizes are given, and
-// stand nowhere in the page.
+// The rules, in the document's field order, each with the offset in the page of the field that breaks it. The sizes are arguments,
+// so their rules have no offset.
 pub enum Fault {
     // The image has another length than the page size.
     Length,
-    // It is no power of two from 512 to 65,536.
+    // The page size is no power of two from 512 to 65,536.
     PageSize,
-    // Fewer than 480 bytes are left without those reserved.
+    // Fewer than 480 bytes remain without the reserved ones.
     UsableSize,
-    // On page 1: the first byte that is unlike.
+    // On page 1: the first byte that differs from the magic string.
     Magic(usize),
     PageType(usize),
     // The first link or block size that is bad.
@@ -23,7 +23,7 @@ pub enum Fault {
     CellCount(usize),
     ContentStart(usize),
     Fragments(usize),
-    // The first that points outside the cell content area.
+    // The first pointer to outside the cell content area.
     CellPointer(usize),
 }
 

@@ -5,7 +5,7 @@ ghost use lib.Dec.{leb};
 ghost use lib.ListN.{length};
 ghost use Rattle.page_format.specs.Fields.{half, headerAt, isInterior, isKind, startAt, arrayAt};
 
-// The least that is left of a page without the bytes that are reserved.
+// A page has at least so many bytes without the reserved ones.
 const LEAST_USABLE: usize = 480;
 
 // Where the b-tree page header of a page stands.
@@ -16,14 +16,14 @@ pub fn header_at(number: u32) -> usize
     if number == 1 { 100 } else { 0 }
 }
 
-// Whether so much is left of a page of a size.
+// Whether at least 480 bytes remain without the reserved ones.
 pub fn is_usable(size: usize, reserved: u8) -> bool
     ensures { λ r. ⌜ r ≡ leb (480 + reserved) size ⌝ }
 {
     LEAST_USABLE + reserved as usize <= size
 }
 
-// Where the usable part of a page ends, of which so many bytes are reserved.
+// Where the usable part of a page ends, if the last `reserved` bytes are reserved.
 pub fn usable_end(length: usize, reserved: u8) -> usize
     requires { ⌜ reserved ≤ length ⌝ }
     ensures { λ r. ⌜ r ≡ length - reserved ⌝ }
@@ -54,7 +54,7 @@ pub fn is_page_type(kind: u8) -> bool
     is_interior(kind) | (kind == 10) | (kind == 13)
 }
 
-// Where the cell content area begins, by the header at a place.
+// Where the cell content area begins, as the page header at `header` says.
 pub fn content_start(image: &[u8], header: usize) -> usize
     requires { ⌜ header + 8 ≤ length (now image) ⌝ }
     ensures { λ r. ⌜ r ≡ startAt (now (image .entry)) header ⌝ }
@@ -64,7 +64,7 @@ pub fn content_start(image: &[u8], header: usize) -> usize
     if stored == 0 { 65536 } else { stored }
 }
 
-// Where the cell pointer array begins, after a header at a place of a page of a kind.
+// Where the cell pointer array begins: after the page header at `header`, whose length depends on the page type.
 pub fn array_at(header: usize, kind: u8) -> usize
     requires { ⌜ header ≤ 100 ⌝ }
     ensures { λ r. ⌜ r ≡ arrayAt header kind ⌝ }

@@ -7,7 +7,7 @@ ghost use Rattle.page_format.specs.Rules.{Finds, LikeMagic};
 // Its 16 bytes, with the zero byte at the end.
 const MAGIC: [u8; 16] = *b"SQLite format 3\0";
 
-// The first of its bytes that is unlike.
+// The first of the image's bytes that differs from it.
 pub fn first_unlike(image: &[u8]) -> Place
     requires { ⌜ 16 ≤ length (now image) ⌝ }
     ensures { λ r. ⌜ Finds (LikeMagic (now (image .entry))) 16 r ⌝ }

@@ -9,7 +9,7 @@ use Rattle.page_format.specs.Rules.{rules, Obeys}
 abbrev pub whole : List ℕ → (number reserved : ℕ) → Page
 whole b number reserved = page b number (length b) reserved
 
--- the rules of the sizes and of the first bytes hold; so there is so much to be read
+-- the rules of the sizes and of the first bytes hold; so there are at least these many bytes to read
 pub record Begun (b : List ℕ) (number reserved : ℕ) : Type 0 where
   pub obeys : Obeys (whole b number reserved) (take 4 rules)
   pub long : 512 ≤ length b

@@ -2,9 +2,9 @@
 pub enum Asked {
     // A line for each record.
     Answers,
-    // And one with the pool after it.
+    // A line for each record, and after each a line with the pool.
     States,
-    // Something that there is not.
+    // Arguments that the program doesn't know.
     Other,
 }
 

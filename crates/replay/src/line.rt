@@ -52,8 +52,7 @@ fn put_hand(out: &mut [u8; ROOM], at: usize, slots: &[u64; sizes::WORDS], head: 
     put_next(out, at, b' ', key_at(slots, head.hand) as u64)
 }
 
-// The key of the page at a slot. The hand of a cache is always a slot; it is tested here, so that nothing has to be known of
-// the head.
+// The key of the page at a slot. The hand of a cache is always a slot; the test here saves proving it.
 fn key_at(slots: &[u64; sizes::WORDS], s: Slot) -> u32 {
     if s.0 >= 256 {
         return 0;

@@ -10,8 +10,8 @@
 //     line.rt     the line of an answer
 //     state.rt    the line of a pool
 //
-// All that a record does is `apply`'s, by its contract. What is here reads and writes. A short last record writes `bad`, and
-// nothing follows. It ends where the input ends, or where no more can be read or written.
+// What a record does is the contract of `apply`. What is here reads and writes. A short last record writes `bad`, and
+// nothing follows. The program ends where the input ends, or where no more can be read or written.
 mod asking;
 mod block;
 mod line;
@@ -30,7 +30,7 @@ fn main() {
     }
 }
 
-// Block after block. `turns` is only there to fall: no input is that long.
+// Block after block. `turns` counts down so that the loop is known to end; no input is that long.
 fn replay(states: bool) {
     let mut slots = [0u64; sizes::WORDS];
     let mut by_key = [0u32; sizes::SLOTS];

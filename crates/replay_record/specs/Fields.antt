@@ -10,7 +10,7 @@ use Rattle.replay_record.specs.declared.record.Decoded.{Decoded}
 use Rattle.replay_record.specs.declared.record.Decoded.the-variants.{Bad, Good}
 
 -- ── numbers ──────────────────────────────────────────────────────────────────
--- little-endian: the number of so many bytes from place `at` on
+-- little-endian: the number of `width` bytes from place `at` on
 unfoldable pub number : (width : ℕ) → List ℕ → (at : ℕ) → ℕ
 number zero bytes at = 0
 number (suc width) bytes at = getD bytes at 0 + 256 * number width bytes (suc at)

@@ -8,12 +8,12 @@ use Rattle.replay_record.specs.declared.record.Decoded.{Decoded}
 use Rattle.replay_record.specs.declared.record.Decoded.the-variants.{Bad, Good}
 
 pub data Request : Type 0 where
-  -- nothing good
+  -- nothing that exists: answer 17
   none : Request
   creation : (capacity : ℕ) → Request
   call : Call → Request
 
--- the operations, from 0 to 16, of a record that comes with a list of so many places
+-- the operations, from 0 to 16, of a record that comes with a list of `places` places
 abbrev pub operations : Record → (places : ℕ) → List Request
 operations r places =
     creation (r .number)
@@ -35,11 +35,11 @@ operations r places =
     ∷ call (switch (r .option))
     ∷ []
 
--- an operation above 16 asks for nothing good
+-- an operation above 16 is answered with 17
 abbrev pub requestOf : Record → (places : ℕ) → Request
 requestOf r places = getD (operations r places) (r .operation) none
 
--- nor do bytes that are no record
+-- and so are bytes that are no record
 abbrev pub requestIn : Decoded → (places : ℕ) → Request
 requestIn Bad places = none
 requestIn (Good r) places = requestOf r places

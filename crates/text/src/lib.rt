@@ -3,7 +3,7 @@
 //     putting.rt   bytes, words and numbers into the output
 //     writing.rt   the output written out, when it is full and at the end; messages, at once
 //
-// A function that puts something answers the place after it. Its caller has seen that there is room.
+// A function that puts something answers the place after it. Its caller makes sure that there is room.
 mod putting;
 mod writing;
 

@@ -11,7 +11,7 @@ pub struct Place {
     pub open: bool,
 }
 
-// The place in the output from which to go on: the start, if it was full.
+// The place in the output at which to go on: the start, if the output was full and has been written out.
 pub fn next_place(out: &[u8; ROOM], at: usize) -> Place
     ensures { λ r. ⌜ r .at ≤ 100000 ⌝ }
 {

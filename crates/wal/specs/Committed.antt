@@ -16,7 +16,7 @@ abbrev pub NoCommit : List Frame → Type 0
 NoCommit [] = Unit
 NoCommit (f ∷ fs) = (f .commit ≡ 0) × NoCommit fs
 
--- the k-th of the frames is a commit of so many pages, and none after it is
+-- the k-th of the frames is a commit, after which the database has `size` pages, and no frame after it is a commit
 pub record LastCommit (fs : List Frame) (k size : ℕ) : Type 0 where
   pub before : List Frame
   pub frame : Frame
@@ -56,7 +56,7 @@ pub record Copy (page n : ℕ) (fs : List Frame) (k at : ℕ) : Type 0 where
   pub commits : HasCommit (frame ∷ after)
   pub last : NoCopy page after
 
--- so a log with these valid frames is read
+-- the answer for a log with these valid frames
 abbrev pub ReadsAs : (page n : ℕ) → List Frame → Found → Type 0
 ReadsAs page n fs OtherLog = ⊥
 ReadsAs page n fs Nothing = NoCopy page fs

@@ -17,11 +17,11 @@ use Rattle.wal.specs.declared.list.Listed.{Listed}
 use Rattle.wal.specs.declared.list.Listed.the-variants as listing
 
 -- ── where frames stand ───────────────────────────────────────────────────────
--- so many frames of length n, one after another from byte 32 on, lie within a log
+-- `count` frames of length n, one after another from byte 32 on, lie within the log
 unfoldable pub reaches : (n count : ℕ) → List ℕ → Bool
 reaches n count b = leb (32 + count * n) (length b)
 
--- so many frames of length n as they stand from a place on, valid or not
+-- the `count` frames of length n that stand from a place on, valid or not
 unfoldable pub placed : (n : ℕ) → List ℕ → (count at : ℕ) → List Frame
 placed n b zero at = []
 placed n b (suc count) at = frameAt b at ∷ placed n b count (at + n)
@@ -32,7 +32,7 @@ abbrev pub committed : Commit → ℕ
 committed commit.Nothing = 0
 committed (commit.At frame size) = frame
 
--- what was found later, if anything was found there
+-- the later of two findings, if there is one, and else this one
 abbrev pub newer : (later this : Found) → Found
 newer Nothing this = this
 newer OtherLog this = OtherLog
@@ -53,7 +53,7 @@ found page s b =
     cond (reaches n count b) (newest page n 0 32 (placed n b count 32)) OtherLog
 
 -- ── the list of all frames ───────────────────────────────────────────────────
--- the answer, where the lists have so many places
+-- the answer, for lists of `pages` and of `sizes` places
 unfoldable pub listed : Summary → List ℕ → (pages sizes : ℕ) → Listed
 listed s b pages sizes =
     cond (reaches (frameLength (s .header)) (s .frames) b)
@@ -72,7 +72,7 @@ written what n b (listing.Done count) list = filled what n b count list
 
 -- what came of a call: the lists were `pages` and `sizes`, and are `pages′` and `sizes′`
 pub record Lists (s : Summary) (b pages sizes : List ℕ) (answer : Listed) (pages′ sizes′ : List ℕ) : Type 0 where
-  -- the answer is the one that is due
+  -- the answer is that of `listed`
   pub told : answer ≡ listed s b (length pages) (length sizes)
   -- the frames' page numbers and commit sizes are written, if the answer is that they are
   pub numbers : pages′ ≡ written (λ f. f .page) (frameLength (s .header)) b answer pages
@@ -85,7 +85,7 @@ pub record Listable (n : ℕ) (b : List ℕ) (count : ℕ) (pages sizes : List �
   pub pages-room : count ≤ length pages
   pub sizes-room : count ≤ length sizes
 
--- so many frames are listed
+-- `count` frames are listed
 pub record Filled (n : ℕ) (b : List ℕ) (count : ℕ) (pages sizes pages′ sizes′ : List ℕ) : Type 0 where
   pub numbers : pages′ ≡ filled (λ f. f .page) n b count pages
   pub commits : sizes′ ≡ filled (λ f. f .commit) n b count sizes

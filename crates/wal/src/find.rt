@@ -50,7 +50,7 @@ fn committed(last: Commit) -> usize
     }
 }
 
-// Whether so many frames lie within a log. The count may be any number, so that their length is not computed: it could wrap.
+// Whether `count` frames lie within a log. The count may be any number, so their length is not computed: it could wrap.
 pub fn reaches(log: &[u8], header: Header, count: usize) -> bool
     ensures { λ r. ⌜ r ≡ reaches (frameLength header) count (now (log .entry)) ⌝ }
 {

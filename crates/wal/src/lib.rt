@@ -6,7 +6,7 @@
 //     find.rt   find_frame: the newest committed frame of a page
 //     list.rt   list_frames: page number and commit size of each valid frame
 //
-// The header is crate wal_header's, a frame wal_frame's, the scan wal_scanner's; what callers want of them is handed on here. Any
+// Crate wal_header has the header, wal_frame a frame, wal_scanner the scan; what callers need of them is exported here too. Any
 // bytes of any length get the answer that specs/ gives them, and nothing is read outside them. What the answers mean for the
 // summary that a scan gave is stated in proofs/Placed.antt, proofs/LastCommit.antt and proofs/Reader.antt.
 mod find;

@@ -12,7 +12,7 @@ pub enum Listed {
     OtherLog,
     // One of the lists has too few places.
     Short,
-    // So many frames are listed.
+    // The number of frames listed.
     Done(usize),
 }
 

@@ -31,7 +31,7 @@ firstSum x s = (s .s0 + (x + s .s1)) % 2 ^ 32
 unfoldable pub paired : (x y : ℕ) → Sums → Sums
 paired x y s = record { s0 = firstSum x s; s1 = (s .s1 + (y + firstSum x s)) % 2 ^ 32 }
 
--- 'for i from 0 to n-1 step 2': so many pairs of words, from place `at` on
+-- 'for i from 0 to n-1 step 2': `pairs` pairs of words, from place `at` on
 unfoldable pub checksum : (big : Bool) → List ℕ → (at pairs : ℕ) → Sums → Sums
 checksum big bytes at zero s = s
 checksum big bytes at (suc pairs) s = checksum big bytes (at + 8) pairs (paired (word big bytes at) (word big bytes (at + 4)) s)

@@ -4,7 +4,7 @@ ghost use Prim.Native.Nat.{_+_, _≤_};
 ghost use lib.ListN.{length};
 ghost use Rattle.wal_checksum.specs.Checksum.{ofBytes, bigEndian, word};
 
-// The big-endian number at a place: so are all numbers in the headers.
+// The big-endian number at a place. All numbers in the headers are big-endian.
 pub fn number_at(bytes: &[u8], at: usize) -> u32
     requires { ⌜ at + 4 ≤ length (now bytes) ⌝ }
     ensures { λ r. ⌜ r ≡ bigEndian (now (bytes .entry)) at ⌝ }

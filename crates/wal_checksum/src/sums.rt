@@ -7,11 +7,11 @@ ghost use Prim.Native.Nat.{_+_, _*_, _≤_};
 ghost use lib.ListN.{length};
 ghost use Rattle.wal_checksum.specs.Checksum.{sameSums, sumsAt, paired, checksum};
 
-// The running sums. Each frame's go on from those of the frame before.
+// The running sums. Those of a frame go on from those of the frame before.
 pub struct Sums {
-    // Of all words but the last, each with a Fibonacci number as its weight.
+    // The sum of all words but the last, each with a Fibonacci number as its weight.
     pub s0: u32,
-    // Of all words.
+    // The same of all words.
     pub s1: u32,
 }
 

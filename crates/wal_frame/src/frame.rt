@@ -13,7 +13,7 @@ ghost use Rattle.wal_frame.specs.Frame.{frameLength, salted, sumsAfter, 
 pub struct Frame {
     // The number of the page that it holds.
     pub page: u32,
-    // The database's size in pages after a commit; 0 if this frame is none.
+    // The database's size in pages after this commit; 0 if this frame is no commit.
     pub commit: u32,
     // The running sums up to and with this frame.
     pub sums: Sums,
@@ -53,7 +53,7 @@ pub fn next_at(log: &[u8], at: usize, header: Header, sums: Sums) -> Next
     Next::Valid(frame)
 }
 
-// Of a frame: its header and a page.
+// The bytes of a frame: its header and a page.
 pub fn length(header: Header) -> usize
     ensures { λ r. ⌜ r ≡ frameLength header ⌝ }
 {

@@ -15,10 +15,10 @@ pub struct Header {
     pub page_size: u32,
     // The checkpoint sequence number.
     pub checkpoint: u32,
-    // Each frame repeats both.
+    // Each frame repeats both salts.
     pub salt1: u32,
     pub salt2: u32,
-    // From which the first frame's sums go on.
+    // The header's sums, from which those of the first frame go on.
     pub sums: Sums,
 }
 
@@ -38,7 +38,7 @@ pub enum Opened {
     Log(Header),
 }
 
-// Of a log's header; the first frame follows.
+// The bytes of a log's header. The first frame follows.
 pub const HEADER_LENGTH: usize = 32;
 
 // The low bit chooses the order of the words that are summed.

@@ -23,7 +23,7 @@ const PIECE: usize = 65560;
 // No file is longer.
 const LONGEST: usize = 9223372036854775807;
 
-// What stands where the scan has come to.
+// What was found at the next place of the log.
 enum Found {
     Valid(Frame),
     End,
@@ -58,7 +58,7 @@ fn refuse(says: &[u8], fault: Fault) {
     }
 }
 
-// Each frame's line is put as it is read, and what was counted at the end.
+// Each frame's line is put as it is read, and the summary at the end.
 fn scan_frames(fd: i32, says: &[u8], piece: &mut [u8; PIECE], header: Header)
     requires { ⌜ header .«page_size» ≤ 65536 ⌝ }
 {
@@ -100,7 +100,7 @@ fn finish(says: &[u8], out: &mut [u8; ROOM], at: usize, summary: Summary, found:
     requires { ⌜ at ≤ 110000 ⌝ }
 {
     if let Found::Unread = found {
-        // First of all: the reason is that of the last call that failed.
+        // Before anything else is called: the reason is that of the last call of the system that failed.
         os::fail(says);
         write_first(out, at);
         return;

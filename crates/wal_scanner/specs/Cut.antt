@@ -1,4 +1,4 @@
--- What is left of some frames where a log is cut (item 2).
+-- The frames that are left if a log is cut (item 2).
 use mathlib.Core.Bool.{cond}
 use mathlib.Core.List.{List, [], _∷_}
 use Prim.Native.Nat.{ℕ, _+_}

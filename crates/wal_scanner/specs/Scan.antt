@@ -17,17 +17,17 @@ use Rattle.wal_scanner.specs.declared.scanning.Summary.{Summary}
 use Rattle.wal_scanner.specs.declared.scanning.Scanned.{Scanned}
 use Rattle.wal_scanner.specs.declared.scanning.Scanned.the-variants.{Unread, Read}
 
--- the valid frames from a place on, which follow what `s` has summed; the first bad frame ends them. There are no more than `most`
+-- the valid frames from a place on, up to the first bad one, `most` at most; `s` are the sums of what comes before them
 unfoldable pub frames : Header → List ℕ → (most at : ℕ) → Sums → List Frame
 frames h b zero at s = []
 frames h b (suc most) at s =
     cond (valid h b at s) (frameAt b at ∷ frames h b most (at + frameLength h) (frameAt b at .sums)) []
 
--- of a log with this header; it has fewer frames than bytes
+-- the valid frames of a log with this header; there are fewer frames than bytes
 abbrev pub framesIn : Header → List ℕ → List Frame
 framesIn h b = frames h b (length b) 32 (h .sums)
 
--- before the first frame
+-- the summary before the first frame
 abbrev pub startOf : Header → Summary
 startOf h = record { header = h; frames = 0; commits = 0; last = Nothing; end = 32; sums = h .sums }
 
@@ -70,7 +70,7 @@ pub record Within (s : Summary) (b : List ℕ) : Type 0 where
   pub few : s .frames ≤ s .end
   pub fewer : s .commits ≤ s .frames
 
--- one look at the place where the scan has come to
+-- one look at the place that the scan has reached
 pub record Stepped (s : Summary) (b : List ℕ) (after : Summary) (more : Bool) : Type 0 where
   pub tells : more ≡ valid (s .header) b (s .end) (s .sums)
   pub moved : after ≡ cond more (counted s (frameAt b (s .end))) s

@@ -39,7 +39,7 @@ pub enum Scanned {
     Read(Summary),
 }
 
-// One look at a log: what was read with the frame that stands there, or that there is none.
+// The result of one look at a log: the summary with the frame that stands there, or that there is none.
 struct Step {
     summary: Summary,
     more: bool,
@@ -71,7 +71,7 @@ fn scan_frames(log: &[u8], header: Header) -> Summary
     s
 }
 
-// One look, at the place where the scan has come to.
+// One look, at the place that the scan has reached.
 fn step_at(log: &[u8], summary: Summary) -> Step
     requires { ⌜ Within summary (now log) ⌝ }
     ensures { λ r. ⌜ Stepped summary (now (log .entry)) (r .summary) (r .more) ⌝ }
@@ -90,7 +90,7 @@ fn step_at(log: &[u8], summary: Summary) -> Step
     }
 }
 
-// Before the first frame.
+// The summary before the first frame.
 pub fn start(header: Header) -> Summary
     ensures { λ r. ⌜ r ≡ startOf header ⌝ }
 {
@@ -105,7 +105,7 @@ pub fn start(header: Header) -> Summary
     }
 }
 
-// One valid frame more.
+// The summary with one valid frame more.
 pub fn add_frame(summary: Summary, frame: Frame) -> Summary
     requires { ⌜ Countable summary ⌝ }
     ensures { λ r. ⌜ r ≡ counted summary frame ⌝ }
