@@ -1,5 +1,5 @@
--- A code and a value make one answer: the answer can be read off them. And what a call came to is all that can be told apart:
--- two calls that came to one outcome from the same list answered the same, and left the same memory and list, since a cache
+-- A code and a value determine the answer. And the outcome of the model determines all that a call answers and leaves: two calls
+-- that came to the same outcome from the same list gave the same answer, and left the same memory and list, since a cache
 -- determines its memory.
 use mathlib.Core.Path.{_≡_, refl, sym, ap, _∙_}
 use mathlib.Core.List.{List, [], _∷_}

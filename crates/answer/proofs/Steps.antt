@@ -127,7 +127,7 @@ module _ (a : Answer) {m : Memory} {head : PageCache} {c : Cache} (H : Holds m h
 pub unlisted-comes : {o : Outcome} {m : Memory} {r : Answered} {list : List ℕ} → Follows o m r → o .listed ≡ [] → Comes o list m list r
 unlisted-comes {list = list} f q = record { follows = f; wrote = rw q (wrote-none list) }
 
--- one touch more: nobody is told
+-- one touch more, which is no part of the answer
 module _ {o : Outcome} {m : Memory} {r : Answered} where
   pub touching-follows : Follows o m r → Follows (touching o) m r
   touching-follows f = record { code = f .code; value = f .value; passed = f .passed; listed = f .listed; holds = f .holds }

@@ -1,5 +1,5 @@
--- Two outcomes that the contract of `apply` allows are the same outcome: the bytes decide what is asked for, a call has one
--- outcome, a creation has one, and nothing good is refused in one way.
+-- The contract of `apply` is deterministic: the bytes decide what is asked for, a call has one outcome, a creation has one, and so
+-- has the refusal of a bad record.
 use mathlib.Core.List.{List}
 use mathlib.Core.Path.{_≡_, sym, ap, _∙_}
 use Prim.Native.Nat.{ℕ}

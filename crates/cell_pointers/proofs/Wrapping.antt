@@ -1,4 +1,4 @@
--- A difference that wraps tells both bounds at once: before the start it is more than any room.
+-- One comparison of a wrapped difference tests both bounds: for a pointer before the start it wraps to more than any room.
 use mathlib.Core.Path.{_≡_}
 use Prim.Native.Nat.{ℕ, _+_, _-_, _%_, _^_, _≤_, _<_}
 use native.Mathlib.Omega.{arith}

@@ -1,4 +1,4 @@
--- Everything has gone: memory as after creation holds a cache with nothing in it, and the spill switch is what it was.
+-- All pages are removed: memory as after creation holds a cache with nothing in it, and the spill switch is what it was.
 use mathlib.Core.Path.{_≡_, refl, ap, subst}
 use mathlib.Core.List.{List, [], _∷_, append-nil}
 use mathlib.Core.Logic.{⊎-elim}

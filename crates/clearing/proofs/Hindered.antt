@@ -1,4 +1,4 @@
--- What stands against a clear: the index by key is the model's walk, so that the first dirty page along it is the first of
+-- What hinders a clear: the index by key is the model's walk, so that the first dirty page along it is the first of
 -- those that the model's rule asks for.
 use mathlib.Core.Path.{_≡_, refl, sym, ap, _∙_, subst}
 use mathlib.Core.Bool.{Bool, true, false}
@@ -71,7 +71,7 @@ module _ {slots by-key : List ℕ} {n i : ℕ} (index : Index (names Key (entrie
       let whole : i ≡ n = omega (arith, g .within) in
       ap (λ (k : ℕ). those isDirty (walk slots by-key k)) (sym whole) ∙ g .none
 
--- once it is told
+-- once the answer is known
 module _ (pages : List Page) (r : Hindrance) where
   pub says-nothing : r ≡ Nothing → FirstIs pages r → pages ≡ []
   says-nothing = subst (FirstIs pages)

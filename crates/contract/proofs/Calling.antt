@@ -18,7 +18,7 @@ use Rattle.answer.specs.declared.answer.Answer.the-variants.{NotSound}
 use Rattle.answer.specs.declared.answered.Answered.{Answered}
 use Rattle.contract.specs.Called.{lent, refuses, acts, Typed, Called}
 
--- words of 64 bits, and an estimate of 32: what is lent is of its types
+-- what is lent is in range for its types: words of 64 bits, and an estimate of 32
 pub lent-typed : {m : Memory} {head : PageCache} → ((k : ℕ) → getD (m .slots) k 0 < 2 ^ 64) → ((k : ℕ) → getD (m .marks) k 0 < 2 ^ 64)
     → head .estimate < 2 ^ 32 → Typed m head
 lent-typed slots marks estimate = record { slots = record { each = slots }; marks = record { each = marks }; estimate = estimate }

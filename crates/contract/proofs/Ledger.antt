@@ -1,6 +1,6 @@
 -- Demand 3's ledger, of the memory. A call counts the touch that it does and the uses that its evictions take away, and no others
--- (the model's Exact); both can be read off the memory before it and after it, since a memory holds one cache. What fell and what
--- is left is never more than what the touches added (the model's Ledger).
+-- (the model's Exact); both follow from the memory before it and after it, since a memory determines its cache. The uses that fell and
+-- those that are left are together never more than the touches (the model's Ledger).
 use mathlib.Core.List.{List, [], _∷_, _++_}
 use mathlib.Core.Option.{Option, none, some}
 use mathlib.Core.Path.{_≡_, sym, ap, _∙_, subst}
@@ -24,7 +24,7 @@ use Rattle.contract.specs.Ledger.{Ledger, created, called}
 use Rattle.contract.proofs.Refused.{called-kept, acted}
 use Rattle.contract.proofs.Following.{history-holds}
 
--- so many uses fell, and no other number
+-- the number of uses that fell is determined
 fell-once : (x : Option Evicting) (after : Cache) (n k : ℕ) → Fell x after n → Fell x after k → n ≡ k
 fell-once none after n k p q = omega (arith, p, q)
 fell-once (some x) after n k p q = omega (arith, p, q)
@@ -41,7 +41,7 @@ module _ {call : Call} {before after : State} {head : PageCache} {r : Answered} 
 
 -- ── all calls since creation ─────────────────────────────────────────────────
 module _ {size capacity : ℕ} where
-  -- the same numbers by other names
+  -- a ledger with equal numbers
   renumbered : {calls : List Call} {m : Memory} {head : PageCache} {t t′ f f′ : ℕ} → t ≡ t′ → f ≡ f′
       → Ledger size capacity calls m head t′ f′ → Ledger size capacity calls m head t f
   renumbered {calls} {m} {head} {t} {t′} {f} {f′} p q l =

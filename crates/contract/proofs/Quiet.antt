@@ -22,7 +22,7 @@ use Rattle.answer.proofs.Steps.{unlisted-comes}
 pub record Quiet (call : Call) : Type 0 where
   pub silent : (c : Cache) → act call c .listed ≡ []
 
--- nor do they by the tests
+-- nor does a test list anything
 quiet-step : {call : Call} → Quiet call → (c : Cache) → step call c .listed ≡ []
 unfolding step
 quiet-step {call} q c = go (refusal call c)

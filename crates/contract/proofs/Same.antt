@@ -1,6 +1,5 @@
--- Two outcomes that one contract allows are the same outcome: the memory is sound or not, and not both; if it isn't, nothing
--- was altered; if it is, the cache that it holds decides the answer, the list and, since a cache determines its memory, every
--- lent word.
+-- The contract of a public call is deterministic: the memory is sound or not, and not both; if it isn't, nothing was altered; if
+-- it is, the cache that it holds decides the answer, the list and, since a cache determines its memory, every lent word.
 use mathlib.Core.Path.{_≡_, sym, _∙_}
 use Rattle.page.specs.declared.cache.PageCache.{PageCache}
 use Rattle.model.specs.Cache.{Cache}

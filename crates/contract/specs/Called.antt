@@ -29,7 +29,7 @@ pub data Does (call : Call) (before : State) (head : PageCache) (after : State) 
       → ((c : Cache) → Holds (before .memory) head c → Comes (step call c) (before .list) (after .memory) (after .list) r)
       → Does call before head after r
 
--- what is lent is of its types: slots and marks are numbers of 64 bits, and the estimate is one of 32
+-- what is lent is in range for its types: slots and marks are numbers of 64 bits, and the estimate is one of 32
 pub record Typed (m : Memory) (head : PageCache) : Type 0 where
   pub slots : Wide (m .slots)
   pub marks : Wide (m .marks)

@@ -1,5 +1,5 @@
 -- Every slot of a new pool is marked as free and every other word is zero, so it holds the cache with nothing in it; and
--- the three answers of a creation exclude each other, so that there is one outcome.
+-- the three answers of a creation exclude each other, so that creation is deterministic.
 use mathlib.Core.Path.{_≡_, refl, sym, ap, _∙_, subst}
 use mathlib.Core.List.{List, [], _∷_, _++_, append-nil}
 use mathlib.Core.Option.{Option, none, some, Option·some-injective}
@@ -230,7 +230,7 @@ created-well {m} {m′} {capacity} {head} a within slots keys handles marks new 
           (fresh-holds (length (m .by-key)) capacity (a .some) (a .most) within));
     }
 
--- the number and the head tell the answer
+-- the number and the head determine the answer
 answer-told : (r r′ : Created) → codeOf r ≡ codeOf r′ → headOf r ≡ headOf r′ → r ≡ r′
 answer-told (Done h) (Done h′) code head = ap Done (Option·some-injective h h′ head)
 answer-told (Done h) BadLengths code head = absurd (omega (arith, code))
@@ -242,7 +242,7 @@ answer-told TooLarge (Done h′) code head = absurd (omega (arith, code))
 answer-told TooLarge BadLengths code head = absurd (omega (arith, code))
 answer-told TooLarge TooLarge code head = refl
 
--- two outcomes that are allowed for one memory and one capacity are the same
+-- creation is deterministic: one outcome for one memory and one capacity
 pub record SameCreation (r : Created) (m : Memory) (r′ : Created) (m′ : Memory) : Type 0 where
   pub answer : r ≡ r′
   pub memory : m ≡ m′

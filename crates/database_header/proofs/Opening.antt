@@ -25,7 +25,7 @@ module _ (b : List ℕ) (long : 100 ≤ length b) {place : Place} (finds : Finds
   pub alike : place ≡ Nowhere → Obeys b (take 2 rules)
   alike is = (long, (subst (Finds (LikeMagic b) 16) is finds, tt))
 
--- the number that was read, and what was told of it
+-- the page size that was read, and the answer whether it is one
 module _ (b : List ℕ) {n : ℕ} {told : Bool} (read : n ≡ pageSize b) (tells : told ≡ isPageSize n) where
   pub no-size : Obeys b (take 2 rules) → not told ≡ true → Refuses b PageSize
   no-size known bad = record {
@@ -36,7 +36,7 @@ module _ (b : List ℕ) {n : ℕ} {told : Bool} (read : n ≡ pageSize b) (tells
   pub a-size : not told ≡ false → Holds b page-size
   a-size good = ap isPageSize (sym read) ∙ sym tells ∙ not-false told good
 
--- and what was told of the bytes that are left of it
+-- and the answer whether enough of its bytes are left
 module _ (b : List ℕ) {n : ℕ} {told : Bool} (read : n ≡ pageSize b) (tells : told ≡ leb (480 + reserved b) n) where
   pub too-few : not told ≡ true → Holds b usable-size → ⊥
   too-few bad enough = omega (arith, leb-false (480 + reserved b) n (sym tells ∙ not-true told bad), read, enough)

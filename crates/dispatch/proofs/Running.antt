@@ -24,7 +24,7 @@ pub sound-at : {operation k : ℕ} {m : Memory} {head : PageCache} → Runnable 
 sound-at w is least most = w .sound (omega (arith, is, least)) (omega (arith, is, most))
 
 -- ── after it ─────────────────────────────────────────────────────────────────
--- the table has nothing from its end on
+-- past its end the table has nothing
 beyond : (l : List Request) (n : ℕ) → length l ≤ n → getD l n none ≡ none
 beyond [] n past = refl
 beyond (x ∷ l) zero past = absurd (omega arith)

@@ -48,8 +48,8 @@ module _ (target : ℕ) (c : Cache) where
       ap {B = Room} (λ n. evictions n target c) some-held ∙ evictions-more (heldIn c - 1) more q
 
 -- ── a loop of evictions ──────────────────────────────────────────────────────
--- the evictions that are left, from the cache that the memory holds now, come to the room, after so many pages were
--- passed and these handles went
+-- the evictions that are left, from the cache that the memory holds now, come to the room, after `count` pages were
+-- passed and the handles `went` were listed
 pub record Toward (room : Room) (target : ℕ) (m : Memory) (head : PageCache) (count : ℕ) (went : List ℕ) : Type 0 where
   pub now : Cache
   pub holds : Holds m head now

@@ -116,7 +116,7 @@ module _ {m : List ℕ} {s : ℕ} (below : HeldBelow m s) where
   pub below-found : bitAt m s ≡ 1 → LowestFree m s
   below-found free = record { free = free; least = below .each }
 
--- the lowest free slot is one slot
+-- there is only one lowest free slot
 pub lowest-once : {m : List ℕ} {s s′ : ℕ} → LowestFree m s → LowestFree m s′ → s ≡ s′
 lowest-once {m} {s} {s′} a b =
     let p : s ≤ s′ = below-not {m = m} record { each = a .least } (b .free) in
@@ -130,7 +130,7 @@ word-of w i h = omega arith
 digit-of : (w i : ℕ) → i < 64 → (w * 64 + i) % 64 ≡ i
 digit-of w i h = omega arith
 
--- equal marks are of equal words
+-- words with equal marks are equal
 pub marks-once : (m m′ : List ℕ) → length m ≡ length m′ → Wide m → Wide m′ → ((k : ℕ) → bitAt m k ≡ bitAt m′ k) → m ≡ m′
 marks-once m m′ long wide wide′ same =
     ext-getD 0 m m′ long (λ w _. digits-once 64 (getD m w 0) (getD m′ w 0) (wide .each w) (wide′ .each w)

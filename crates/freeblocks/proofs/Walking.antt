@@ -1,4 +1,4 @@
--- Each turn of the walk passes one good block, so that the chain comes to what the rest of it comes to.
+-- Each turn of the walk passes one good block, so that the answer for the rest of the chain is the answer for the whole.
 use mathlib.Core.Path.{_≡_, sym, subst, _∙_}
 use mathlib.Core.List.{List}
 use Prim.Native.Nat.{ℕ, _+_, _-_, _<_}
@@ -9,7 +9,7 @@ use Rattle.page_format.specs.declared.answer.Place.{Place}
 use Rattle.page_format.specs.declared.answer.Place.the-variants.{Nowhere, At}
 use Rattle.freeblocks.specs.Chained.{Linked}
 
--- the walk along the chain from `link` on has come to the link at `at`, and the blocks so far end at `free`
+-- the walk along the chain from `link` on has reached the link at `at`, and the blocks so far end at `free`
 pub record Walked (b : List ℕ) (end link least at free : ℕ) : Type 0 where
   pub linked : Linked b end at
   pub rest : (place : Place) → Chain b end at free place → Chain b end link least place

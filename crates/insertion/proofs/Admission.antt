@@ -35,7 +35,7 @@ use Rattle.insertion.specs.Form.{insertionOf, goesIn, turnedAway}
 use Rattle.insertion.specs.Admit.{Admits}
 
 -- ── the form decides ─────────────────────────────────────────────────────────
--- no room was made, and the page doesn't go in all the same
+-- no room was made, and the page doesn't go in
 abbrev staysOut : Insertion → Room → Bool
 staysOut form r = r .full && not (goesIn form (heldIn (r .cache)) (r .cache .size))
 

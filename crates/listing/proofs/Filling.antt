@@ -35,7 +35,7 @@ module _ {A : Type 0} where
     whole = rw (zero-mul width);
   }
 
-  -- every page takes as many places
+  -- every page takes the same number of places
   abbrev pub Even : (ListedPage → List A) → ℕ → Type 0
   Even shown width = (p : ListedPage) → length (shown p) ≡ width
 

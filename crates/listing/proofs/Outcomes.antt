@@ -1,5 +1,5 @@
--- The verdict says whether the memory is sound and the list long enough, so that no other verdict can be given; and a listing of
--- as many pages as the verdict says leaves the list as the answer has it.
+-- Whether the memory is sound and the list long enough determines the verdict; and a listing of as many pages as the verdict says
+-- leaves the list as the answer says.
 use mathlib.Core.Path.{_≡_, refl, sym, ap, _∙_}
 use mathlib.Core.List.{List, [], flatMap}
 use Prim.Native.Nat.{ℕ, _/_, _≤_, _<_}
@@ -28,7 +28,7 @@ module _ {A : Type 0} (F : Form A) {m : Memory} {head : PageCache} {c : Cache} (
   cache-listed lists = lists (c .row) (row-stands g) (row-held g)
 
 -- ── from the verdict to the answer ───────────────────────────────────────────
--- the list has places for so many pages and no more, and a row of none takes no place
+-- the list has places for `space` pages and no more, and an empty row takes no place
 pub record Fits {A : Type 0} (F : Form A) (space : ℕ) (list : List A) : Type 0 where
   pub empty : F .written [] ≡ []
   pub none : F .places 0 ≡ 0
@@ -78,7 +78,7 @@ module _ {A : Type 0} {F : Form A} {m : Memory} {head : PageCache} {space : ℕ}
       filled (too-short v) e is c holds = absurd (omega (arith, is))
 
 -- ── one outcome ──────────────────────────────────────────────────────────────
--- the number and the value tell the answer
+-- the number and the value determine the answer
 answer-told : (a b : Listing) → codeOf a ≡ codeOf b → valueOf a ≡ valueOf b → a ≡ b
 answer-told (Done n) (Done k) code value = ap Done value
 answer-told (Done n) NotSound code value = absurd (omega (arith, code))
@@ -107,7 +107,7 @@ pub record Same {A : Type 0} (a : Listing) (after : List A) (a′ : Listing) (af
   pub answer : a ≡ a′
   pub list : after ≡ after′
 
--- two outcomes that the contract allows are one
+-- the contract is deterministic
 pub comes-once : {A : Type 0} {F : Form A} {m : Memory} {head : PageCache} {before after after′ : List A} {a a′ : Listing}
     → Comes F m head before after a → Comes F m head before after′ a′ → Same a after a′ after′
 comes-once {F = F} {m = m} {head = head} {before = before} {after = after} {after′ = after′} {a = a} {a′ = a′} g g′ =

@@ -1,4 +1,4 @@
--- What is so of each entry of the row is so at each seat, and the other way round: the row has one entry for each seat.
+-- What holds of each entry of the row holds at each seat, and the other way round: the row has one entry for each seat.
 use mathlib.Core.Path.{_≡_, sym, subst}
 use mathlib.Core.Bool.{true, true≢false}
 use mathlib.Core.Logic.{⊎-elim}

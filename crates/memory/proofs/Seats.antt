@@ -1,5 +1,5 @@
 -- The seats after a write. A slot that isn't written keeps all but its links, and the new ring says that the links of every
--- slot that is no seat are zero: so a slot that is free stays blank, and one that falls free becomes it.
+-- slot that is no seat are zero: so a slot that is free stays blank, and one that becomes free becomes blank.
 use mathlib.Core.Path.{_≡_, refl, sym, ap, _∙_}
 use mathlib.Core.Bool.{true, true≢false}
 use mathlib.Core.List.{List, [], _∷_, _++_}

@@ -113,7 +113,7 @@ module _ {es : List PageCacheEntry} {seats : List ℕ} {row : Row} {key s : ℕ}
   pub standing-inside : RingOf es seats → s < length es
   standing-inside ring = simp length-map at (standing-front ring .inside .0)
 
--- what is so of each entry is so of the one found, and of the others
+-- what holds of each entry holds of the one found, and of the others
 pub each-found : (P : Entry → Type 0) (key : ℕ) (row : Row) (e : Entry) → find key row ≡ some e → Each P row → P e
 each-found P key row e found all =
     let f = find-stands key row e found in

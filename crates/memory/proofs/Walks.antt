@@ -1,5 +1,5 @@
 -- The index by key is the order of every walk over keys. Both the model's walk and the index are the held pages by strictly
--- ascending key, and such an order is told by its members: so they are one. A loop over the index meets the walk's entries
+-- ascending key, and such an order is determined by its members: so the two are equal. A loop over the index meets the walk's entries
 -- one after another.
 use mathlib.Core.Path.{_≡_, refl, sym, ap, _∙_, subst}
 use mathlib.Core.Bool.{Bool, true, false, _||_, true≢false}
@@ -104,7 +104,7 @@ module _ (es : List PageCacheEntry) where
     same : (k : ℕ) → has k order ≡ has k seats
     row : byKey (rowOf es seats) ≡ rowOf es order
 
-  -- two seats of one key are one
+  -- seats with the same key are the same seat
   abbrev Tells : List ℕ → Type 0
   Tells seats = (j k : ℕ) → has j seats ≡ true → has k seats ≡ true → getD keys j 0 ≡ getD keys k 0 → j ≡ k
 

@@ -1,5 +1,5 @@
 -- Finding, changing and removing by key, as one fact: the row splits at the entry. `find` stops at the first entry with the key,
--- and so do `change` and `without`, so a split whose front has only other keys tells what all three come to. Where keys are
+-- and so do `change` and `without`, so a split whose front has only other keys gives the result of all three. If all keys are
 -- different, every split is of that kind.
 use mathlib.Core.Bool.{true, false}
 use mathlib.Core.List.{[], _∷_, _++_}

@@ -1,4 +1,4 @@
--- A page that may go counts: to count asks two of the five things that going asks.
+-- A page that may go counts: to count, two of the five conditions for going have to hold.
 use mathlib.Core.Bool.{Bool, true, false, not, _&&_, false≢true, and-false}
 use mathlib.Core.Path.{_≡_, refl}
 use Prim.Native.Nat.{ℕ}

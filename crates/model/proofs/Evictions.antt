@@ -1,5 +1,5 @@
 -- Every eviction of the model is by demand 3: each sweep comes to what the demand says (Evicts), so one eviction does, and so do
--- evictions one after another. What falls in one is what the row has less after it (Totals).
+-- evictions one after another. The uses that fall in one are the row's total before it minus the total after it (Totals).
 use mathlib.Core.Bool.{Bool, true, false, cond}
 use mathlib.Core.List.{[], _∷_, _++_, map}
 use mathlib.Core.Option.{Option, none, some}
@@ -36,7 +36,7 @@ each-loses : (r : ℕ) (row : Row) → Each (λ e. MayGo pageMayGo e → r ≤ e
 each-loses r [] as-many = tt
 each-loses r (e ∷ es) as-many = (lower-loses r e (as-many .0), each-loses r es (as-many .1))
 
--- and whatever has lost so much is what the model's sweep leaves of it
+-- and an entry that has lost exactly r uses is the one that the model's sweep leaves
 lost-lowered : (r : ℕ) (e e′ : Entry) → Loses r e e′ → e′ ≡ lower pageMayGo r e
 unfolding lower
 lost-lowered r e e′ lost = go (pageMayGo (e .page)) refl
@@ -54,7 +54,7 @@ each-lowered r (e ∷ es) [] lost = absurd lost
 each-lowered r (e ∷ es) (e′ ∷ es′) lost = λ i. lost-lowered r e e′ (lost .0) i ∷ each-lowered r es es′ (lost .1) i
 
 -- ── one eviction ─────────────────────────────────────────────────────────────
--- a sweep of the model that took a page with this handle, passed so many and left the cache c′
+-- a sweep of the model that took the page with the handle `gone`, passed `count` pages and left the cache c′
 pub record Sweeps (c : Cache) (gone count : ℕ) (c′ : Cache) : Type 0 where
   pub page : Page
   pub victim : sweepOf c .victim ≡ some page

@@ -62,7 +62,7 @@ module _ (may : Page → Bool) where
   evicts-once row s l (full t q) = q ∙ sym (sweep-refuses row t)
   evicts-once row s l (takes before v after parts is q) = q ∙ sym (sweep-takes row before v after parts is l)
 
-  -- two outcomes that demand 3 allows are one outcome
+  -- demand 3 is deterministic
   pub evicts-same : (row : Row) (s t : Swept) → Each Limited row → Evicts may row s → Evicts may row t → s ≡ t
   evicts-same row s t l a b = evicts-once row s l a ∙ sym (evicts-once row t l b)
 

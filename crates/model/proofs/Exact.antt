@@ -1,5 +1,5 @@
--- An outcome counts what there is to count: the touch that a call does to a page and the uses that its evictions take away, and no
--- others. Rule by rule, for every call; a run adds them up.
+-- An outcome counts the touch that a call does to a page and the uses that its evictions take away, and no others. Rule by rule, for
+-- every call; a run adds them up.
 use mathlib.Core.Bool.{Bool, true, false}
 use mathlib.Core.List.{List, [], _∷_, _++_, append-nil}
 use mathlib.Core.Option.{Option, none, some}
@@ -35,7 +35,7 @@ use Rattle.model.proofs.KeptRooms.{evicted-held}
 use Rattle.model.proofs.Totals.{total-enter}
 
 -- ── neither a touch nor an eviction ──────────────────────────────────────────
--- whatever the row
+-- the outcome counts neither, from any row
 abbrev Plain : Outcome → Type 0
 Plain o = (row : Row) → Counts neither row o
 
@@ -312,7 +312,7 @@ enters-total : {row row′ : Row} → Enters row row′ → total row′ ≡ tot
 enters-total stays = refl
 enters-total {row} (enters p) = total-enter p row
 
--- what fell is what the cache has less than the one from which pages were evicted
+-- what fell is the total before the evictions minus the total after the call
 pub falls-exact : (call : Call) (c : Cache) → Kept c → Fell (effectOf call c .evicting) (step call c .cache) (step call c .falls)
 falls-exact call c k = go (effectOf call c .evicting) (step-counts call c k .evictions)
   where

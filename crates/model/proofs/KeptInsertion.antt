@@ -37,7 +37,7 @@ no-handles [] h = refl
 no-handles (x ∷ xs) h = absurd (omega arith)
 
 module _ (key handle : ℕ) (state : PageRecord) where
-  -- the arguments are of their kind
+  -- the arguments are in range
   abbrev Given : Type 0
   Given = (key < 2 ^ 32) × (handle < 2 ^ 32) × Fit state
 

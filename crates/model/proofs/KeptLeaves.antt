@@ -27,9 +27,9 @@ pub record Refusal (code : ℕ) : Type 0 where
 
 -- an outcome of a rule on the cache c
 pub record Leaves (c : Cache) (most : ℕ) (given : Type 0) (o : Outcome) : Type 0 where
-  -- the limits are kept, if the arguments are of their kind
+  -- the limits are kept, if the arguments are in range
   pub kept : given → Kept (o .cache)
-  -- at most so many handles are listed
+  -- at most `most` handles are listed
   pub listed : length (o .listed) ≤ most
   -- a code from 11 on says that nothing was changed
   pub refused : 11 ≤ o .code → Unchanged c o

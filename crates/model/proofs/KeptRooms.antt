@@ -23,7 +23,7 @@ use Rattle.model.proofs.KeptRows.{Fits, fits-remove, fits-look, kept-fi
 
 -- ── a sweep keeps what a look keeps ──────────────────────────────────────────
 module _ (may : Page → Bool) where
-  -- whatever it is of the row
+  -- whatever Q says of the row
   looks-keep : (Q : Row → Type 0) → ((e : Entry) (es : Row) → Q (e ∷ es) → Q es)
       → ((e : Entry) (es : Row) → Q (e ∷ es) → Q (es ++ lower may 1 e ∷ []))
       → (k : ℕ) (row : Row) → Q row → Q ((looks may k row) .row)
@@ -52,7 +52,7 @@ victim-out-le none n = omega arith
 victim-out-le (some p) n = count-out-le p n
 
 module _ (c : Cache) (k : Kept c) where
-  -- use counts are 0 to 3: what demand 3's theorems ask
+  -- use counts are 0 to 3: what demand 3's theorems require
   pub kept-limited : Each Limited (c .row)
   kept-limited = each-weaken (Good (c .size)) Limited (λ e g. g .uses) (c .row) (k .good)
 
@@ -147,7 +147,7 @@ make-room-spare c k = either (λ (r : Room). r .full ≡ false → heldIn (r .ca
     (λ h full. omega (arith, eqb-false (c .capacity) 0 h, k .capacity, evict-makes (c .capacity - 1) c k .room full))
 
 -- ── how many go, of any cache ────────────────────────────────────────────────
--- so many evictions list no more handles
+-- n evictions list at most n handles
 sweeping-few : (c : Cache) (v : Option Page) (rest : Room) (n : ℕ) → length (rest .gone) ≤ n → length (sweeping c v rest .gone) ≤ suc n
 sweeping-few c none rest n few = omega arith
 sweeping-few c (some p) rest n few = omega arith

@@ -14,7 +14,7 @@ use Rattle.model.proofs.Rows.{each-append, each-remove}
 use Rattle.model.proofs.Lowering.{lower-le}
 use Rattle.model.proofs.Numbers.{OtherSlot, OtherKey, OtherHandle, each-place, each-enter, apart-place, apart-remove, apart-turn, apart-same, apart-enter}
 
--- a row of a cache with so many slots
+-- a row of a cache with `size` slots, within its limits
 pub record Fits (size : ℕ) (row : Row) : Type 0 where
   pub held : length row ≤ size
   pub good : Each (Good size) row

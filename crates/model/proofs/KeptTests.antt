@@ -1,4 +1,4 @@
--- What the tests tell of a call that passed them.
+-- What is known of a call that passed the tests.
 use mathlib.Core.Bool.{Bool, true, false, cond, not, _&&_, true≢false, false≢true}
 use mathlib.Core.List.{[], _∷_}
 use mathlib.Core.Path.{_≡_, refl, sym}

@@ -57,7 +57,7 @@ module _ (may : Page → Bool) where
   pub fewer : (r s : ℕ) → r ≤ s → (es : Row) → Each (AtLeast s) es → Each (AtLeast r) es
   fewer r s h = each-weaken (AtLeast s) (AtLeast r) (λ e l m. omega (arith, l m))
 
-  -- an entry that may not go is so for any r
+  -- an entry that may not go meets this for any r
   pub stays-any : (r : ℕ) (e : Entry) → Stays may e → AtLeast r e
   stays-any r e s m = absurd (true≢false (sym m ∙ s))
 

@@ -20,8 +20,8 @@ total-append (x ∷ xs) ys = omega (arith, total-append xs ys)
 
 -- ── sweeps ───────────────────────────────────────────────────────────────────
 module _ (may : Page → Bool) where
-  -- what the looks take away is what the row has less: an entry that goes has no uses left, and one that is passed is put
-  -- back with what it has then
+  -- what the looks take away is the row's total before them minus the total after them: an entry that goes has no uses left, and
+  -- one that is passed keeps the rest of its own
   pub looks-total : (k : ℕ) (row : Row) → total row ≡ falls may k row + total ((looks may k row) .row)
   unfolding total looks falls pass
   looks-total zero row = omega arith

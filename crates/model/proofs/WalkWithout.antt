@@ -1,5 +1,5 @@
 -- A page that leaves the row leaves the walk over its keys, and the rest of the walk stays as it is: without the page the walk
--- still ascends and has the others, and there is one such walk.
+-- still ascends and has the others, and there is only one such walk.
 use mathlib.Core.Path.{_≡_, refl, sym, ap, _∙_, subst}
 use mathlib.Core.List.{[], _∷_, _++_}
 use mathlib.Core.Option.{some}
@@ -29,7 +29,7 @@ each-apply : (P Q : Entry → Type 0) (row : Row) → Each (λ z. Q z → P z) r
 each-apply P Q [] f t = tt
 each-apply P Q (z ∷ zs) f t = (f .0 (t .0), each-apply P Q zs (f .1) (t .1))
 
--- what is so of each entry but e stays so where the entries stand otherwise
+-- what holds of each entry but e holds of them in another order too
 others-there : (xs : Row) (e : Entry) (ys xs′ ys′ : Row) → ((P : Entry → Type 0) → Each P (xs ++ e ∷ ys) → Each P (xs′ ++ e ∷ ys′))
     → Each (OtherKey (e .page .key)) (xs′ ++ ys′) → (P : Entry → Type 0) → Each P (xs ++ ys) → Each P (xs′ ++ ys′)
 others-there xs e ys xs′ ys′ there others P t =

@@ -95,7 +95,7 @@ module _ {m : Memory} {head : PageCache} {c : Cache} {key s : ℕ} {e : Entry} (
         let parted : rowOf (entries slots′) (H .seats) ≡ rowOf (set es s x) (k .front ++ s ∷ k .back) = λ i. rowOf (st .written i) (k .seats-are i) in
         k .change-is f ∙ sym (parted ∙ row-append (set es s x) (k .front) (s ∷ k .back) ∙ (λ i. front i ++ here i ∷ back i))
 
-    -- the head, the marks and the index by key stay; the index by handle is what it is told to be
+    -- the head but for its estimate, the marks and the index by key stay; the index by handle is any that lists the seats by the new handles
     pub changed : {head′ : PageCache} {by-handle′ : List ℕ} (f : Entry → Entry) (n : ℕ) → f e ≡ seen s x → Fine (f e) → head′ ≡ headCounting head n
         → length by-handle′ ≡ length (m .by-handle) → Listed (names Handle (entries slots′)) by-handle′ (H .seats)
         → Holds (memoryOf slots′ (m .by-key) by-handle′ (m .marks)) head′ (withEstimate n (withRow (change key f (c .row)) c))

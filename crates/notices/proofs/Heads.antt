@@ -1,4 +1,4 @@
--- A notice and the switch change the head alone: the memory holds the same pages, and only what the head says is another.
+-- A notice and the switch change the head alone: the memory holds the same pages, and only the head's numbers differ.
 use mathlib.Core.Path.{_≡_, refl, sym, ap, _∙_}
 use mathlib.Core.Bool.{Bool, true, false, cond, not, true≢false}
 use mathlib.Core.Option.{Option, none, some}
@@ -52,7 +52,7 @@ module _ {m : Memory} {head : PageCache} {c : Cache} (H : Holds m head c) where
     estimate = is;
   })
 
--- it counts, or it doesn't
+-- the estimate follows the notice, or it doesn't
 notified-not : (by : ℕ → ℕ) (found : Option Entry) {c : Cache} → noticed found ≡ false → notified by found c ≡ answer 0 0 c
 notified-not by none is = refl
 notified-not by (some e) is = rw (not-false (pageOne (e .page .key)) is, notified)
@@ -61,7 +61,7 @@ notified-by : (by : ℕ → ℕ) (found : Option Entry) {c : Cache} → noticed 
 notified-by by none is = absurd (true≢false (sym is))
 notified-by by (some e) is = rw (not-true (pageOne (e .page .key)) is, notified)
 
--- whether the key was found tells it
+-- it follows if the key was found, and isn't page 1
 pub noticed-none : (key : ℕ) (row : Row) → find key row ≡ none → false ≡ noticed (find key row)
 noticed-none key row absent = sym (ap noticed absent)
 

@@ -1,5 +1,5 @@
--- Slots by strictly ascending names: each name is below all later ones, so a name tells its slot and its place, and the
--- members alone tell the list.
+-- Slots by strictly ascending names: each name is below all later ones, so a name determines its slot and its place, and the
+-- members alone determine the list.
 use mathlib.Core.Path.{_≡_, sym, ap, _∙_}
 use mathlib.Core.Bool.{true, false, true≢false}
 use mathlib.Core.Logic.{_⊎_, ⊎-elim}
@@ -106,7 +106,7 @@ module _ (col : List ℕ) where
   asc-apart [] a = tt
   asc-apart (s ∷ l) a = (out-above s l (a .1), asc-apart l (a .2))
 
-  -- two members of one name are one
+  -- members with the same name are the same slot
   pub asc-names : (l : List ℕ) → Asc col l → (j k : ℕ) → has j l ≡ true → has k l ≡ true → getD col j 0 ≡ getD col k 0 → j ≡ k
   asc-names [] a j k g h e = absurd (true≢false (sym g))
   asc-names (s ∷ l) a j k g h e =

@@ -46,7 +46,7 @@ module _ {col order seats : List ℕ} {n : ℕ} (l : Listed col order seats) (he
       let w : p .at < n = omega (arith, p .within, used-long) in
       record { at = p .at; within = w; there = sym (getD-take n order (p .at) 0 w) ∙ p .there }
 
-  -- two seats of one name are one
+  -- seats with the same name are the same seat
   pub listed-names : (j k : ℕ) → has j seats ≡ true → has k seats ≡ true → getD col j 0 ≡ getD col k 0 → j ≡ k
   listed-names j k g h e = asc-names col (take n order) (listed-index .asc) j k (listed-has j ∙ g) (listed-has k ∙ h) e
 

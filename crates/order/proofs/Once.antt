@@ -1,4 +1,4 @@
--- An index is told by what it lists: the first of an ascending list is its member of the least name, and so on down; and
+-- An index is determined by what it lists: the first of an ascending list is its member with the least name, and so on; and
 -- beyond the used part all is zero.
 use mathlib.Core.Path.{_≡_, refl, sym, ap, _∙_}
 use mathlib.Core.Bool.{true, false, true≢false}

@@ -1,5 +1,5 @@
--- The lists that the loops of `insert_at` and `remove_at` go through: each turn moves one more element by one place, so
--- that the part already moved stands beside its old self.
+-- The lists that the loops of `insert_at` and `remove_at` go through: each turn copies one more element to the place beside it, so
+-- that between turns the element moved last stands at both places.
 use mathlib.Core.Path.{_≡_, refl, ap, _∙_}
 use mathlib.Core.List.{List, [], _∷_, _++_}
 use Prim.Native.Nat.{ℕ, zero, suc, _+_, _-_, _≤_, _<_, zero-le}

@@ -1,5 +1,5 @@
--- Two outcomes that the contract of an exported function allows are the same outcome: the lengths decide whether anything is
--- called, and what is called has one outcome.
+-- The contracts of the exported functions are deterministic: the lengths decide whether anything is called, and what is called has
+-- one outcome.
 use mathlib.Core.Path.{_≡_, sym, ap, _∙_}
 use mathlib.Core.List.{List}
 use Prim.Native.Nat.{ℕ}

@@ -1,4 +1,4 @@
--- A page has one answer: a rule that fails doesn't hold, it has one first fault, and those before it hold.
+-- The check is deterministic: only one rule fails while all rules before it hold, and it has one first fault.
 use mathlib.Core.Path.{_≡_, refl, sym, ap, subst, _∙_}
 use mathlib.Core.List.{List, [], _∷_}
 use Prim.Native.Nat.{ℕ, zero, suc, _+_, _<_}

@@ -6,7 +6,7 @@ use native.Mathlib.Decide.{decLt}
 use Rattle.page_format.specs.Rules.{Finds}
 use Rattle.page_format.specs.declared.answer.Place.the-variants.{Nowhere, At}
 
--- the first i of so many have been looked at, and are fine
+-- the first i of `many` have been looked at, and are fine
 pub record Looked (Fine : ℕ → Type 0) (many i : ℕ) : Type 0 where
   pub within : i ≤ many
   pub fine : (j : ℕ) → j < i → Fine j

@@ -46,7 +46,7 @@ module _ {b : List ℕ} {number reserved end h : ℕ} (f : Found b number reserv
           obeys-next (whole b number reserved) 5 (omega arith) typed (rw (own-start, f .header, f .ends) at chain)
 
 -- ── the other fields ─────────────────────────────────────────────────────────
--- both hold, and so many cells are said to be there
+-- the page type is good and no freeblock is bad; `cells` is the number of cells that the header says
 pub record Counted (b : List ℕ) (number reserved end h start array cells : ℕ) : Type 0 where
   pub found : Found b number reserved end h
   pub kind : isKind (getD b h 0) ≡ true

@@ -7,7 +7,7 @@ use native.Mathlib.Omega.{arith}
 use borrow.Author.Tests.{ne-eqb}
 use Rattle.page_size.specs.PageSize.{isPageSize}
 
--- what is none of the numbers between them is no size
+-- a number that is not between them is no size
 no-size : (n : ℕ) → ((k : ℕ) → 512 ≤ k → k ≤ 65536 → n ≡ k → ⊥) → isPageSize n ≡ false
 no-size n other =
     simp (

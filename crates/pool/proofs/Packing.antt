@@ -230,7 +230,7 @@ decode-once {a} {b} {c} {d} {a′} {b′} {c′} {d′} e = record {
   frame = ap (λ (q : PageCacheEntry). q .page .frame) e;
 }
 
--- whole slots: equal entries are of equal words
+-- whole slots: equal entries have equal words
 pub words-once : (n : ℕ) (l m : List ℕ) → length l ≡ 4 * n → length m ≡ 4 * n → entries l ≡ entries m → l ≡ m
 unfolding entries
 words-once zero [] [] p q e = refl

@@ -63,7 +63,7 @@ turn {n} {p} {e} {r} g = record {
   free-prev = λ k o. g .free-prev k (out-unsnoc k e r o);
 }
 
--- by as many as one likes
+-- by any number of slots
 pub turns : {n p : List ℕ} (xs ys : List ℕ) → Ring n p (xs ++ ys) → Ring n p (ys ++ xs)
 turns [] ys g = rw append-nil g
 turns (x ∷ xs) ys g = rw (append-snoc ys x xs) at (turns xs (ys ++ x ∷ []) (rw (append-assoc xs ys (x ∷ [])) at (turn g)))

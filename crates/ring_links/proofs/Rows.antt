@@ -42,7 +42,7 @@ way-only n p p′ a z z′ (b ∷ r) (b′ ∷ r′) e w w′ =
     let t : r ≡ r′ = way-only n p p′ b z z′ r r′ (omega arith) (w .1) (subst (λ (x : ℕ). Way n p′ x r′ z′) (sym q) (w′ .1)) in
     λ i. q i ∷ t i
 
--- from one slot, as many slots are the same slots
+-- two rounds of the same length from the same slot are the same row
 pub round-only : (n p p′ row row′ : List ℕ) → length row ≡ length row′ → firstOf row ≡ firstOf row′ → Round n p row → Round n p′ row′ → row ≡ row′
 round-only n p p′ [] [] e f w w′ = refl
 round-only n p p′ [] (b ∷ r′) e f w w′ = absurd (omega arith)

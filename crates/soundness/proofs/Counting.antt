@@ -1,5 +1,5 @@
--- Different numbers that a test says yes to are no more than it says yes to at all; and if they are as many, they are all
--- of them.
+-- A list of different numbers that pass a test is no longer than the number of all that pass it; and if it is as long, it has
+-- all of them.
 use mathlib.Core.Path.{_≡_, refl, sym, ap, _∙_}
 use mathlib.Core.Bool.{Bool, true, false, not, _&&_, true≢false}
 use mathlib.Core.Logic.{⊎-elim}

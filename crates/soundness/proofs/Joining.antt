@@ -1,6 +1,6 @@
--- The passes together say that the memory is sound, and no less. The ring's slots and each index's are as many different
--- unmarked slots as are held, and there are no more unmarked slots: so each of the three is exactly the unmarked slots.
--- The other way, each pass reads its answer off what the memory holds.
+-- The passes together say exactly that the memory is sound. The ring and each index have `held` different unmarked slots, and no
+-- more slots are unmarked: so each of the three has exactly the unmarked slots. The other way round, memory that holds a cache
+-- passes each of them.
 use mathlib.Core.Path.{_≡_, refl, sym, ap, _∙_, subst}
 use mathlib.Core.Bool.{Bool, true, false, cond, true≢false}
 use mathlib.Core.Logic.{⊎-elim}
@@ -53,7 +53,7 @@ all-below : (size : ℕ) (l : List ℕ) → Below size l → All (λ k. k < size
 all-below size [] g = tt
 all-below size (a ∷ l) g = (g .0, all-below size l (g .1))
 
--- slots below the size are none from there on
+-- a list of slots below the size has none from the size on
 has-below : (size : ℕ) (l : List ℕ) → All (λ k. k < size) l → (k : ℕ) → size ≤ k → has k l ≡ false
 has-below size [] g k h = refl
 has-below size (a ∷ l) g k h = has-skip k a l (λ e. omega (arith, g .0)) ∙ has-below size l (g .1) k h
@@ -93,7 +93,7 @@ module _ (m : Memory) (head : PageCache) (ch : Checked m head) where
   es-long : length es ≡ size
   es-long = entries-whole size (m .slots) (ch .agreeing .lengths .slots)
 
-  -- as many different unmarked slots as are held are all that are unmarked
+  -- `held` different unmarked slots are all the unmarked ones
   all-unmarked : (l : List ℕ) → Apart l → All (Taken (m .marks) size) l → length l ≡ head .held → (k : ℕ) → k < size → has k l ≡ unmarked (m .marks) k
   all-unmarked l d g e = covers l (unmarked (m .marks)) size d (all-map (λ k t. (t .inside, eq-eqb (bitAt (m .marks) k) 0 (t .held))) l g) (e ∙ sym (ch .marks .count))
 

@@ -1,6 +1,6 @@
--- A walk by `next` that is back at its start no sooner than at its end meets no slot twice: were a slot met again, so
--- would be the one that follows it, and in the end the start. So the loop need only follow the links and count; what it
--- still has to show is that the rest of the way is there.
+-- A walk along `next` that comes back to its start only at its end meets no slot twice: if a slot were met again, so would the
+-- slots after it be, and at last the start. So the loop need only follow the links and count; what is left to show at each turn
+-- is that the rest of the walk exists.
 use mathlib.Core.Path.{_≡_, refl, sym, ap, _∙_}
 use mathlib.Core.Bool.{Bool, true, false}
 use mathlib.Core.List.{List, [], _∷_}
@@ -34,7 +34,7 @@ module _ (n p : List ℕ) (z : ℕ) where
       (fresh a b b r (w .0 .0) (w .1) (rest .0) (λ e. o .0 (sym e)), rest)
 
 -- ── what is left of a walk ───────────────────────────────────────────────────
--- from slot a there are k slots, a with them, on the way back to z
+-- the way from slot a back to z has k slots, a among them
 pub record Rest (es : List PageCacheEntry) (m : List ℕ) (z k a : ℕ) : Type 0 where
   pub row : List ℕ
   pub long : suc (length row) ≡ k

@@ -1,4 +1,4 @@
--- How many pages of a row are so does not depend on the order of the row, so a walk over its keys counts them: sorting an entry
+-- How many pages of a row pass a test does not depend on the order of the row, so a walk over its keys counts them: sorting an entry
 -- in adds as much to the count as putting it in front.
 use mathlib.Core.Path.{_≡_, refl, ap, _∙_}
 use mathlib.Core.Bool.{Bool, true, false, cond}

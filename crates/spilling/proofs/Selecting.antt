@@ -50,7 +50,7 @@ wrote-length {handles} {before} w h =
 abbrev spillables : (slots by-key : List ℕ) → ℕ → List Page
 spillables slots by-key i = those pageSpillable (walk slots by-key i)
 
--- so many of the first i pages of the walk are listed, and no more than the most
+-- of the first i pages of the walk those that may be spilled are listed: `listed` pages, and at most `most`
 pub record Selecting (slots by-key before : List ℕ) (held most i listed : ℕ) (after : List ℕ) : Type 0 where
   pub met : Met pageSpillable slots by-key held i listed
   pub few : listed ≤ most

@@ -1,4 +1,4 @@
--- A loop over the index meets the pages of the walk over keys one after another, and so counts those that are so. It stays
+-- A loop over the index meets the pages of the walk over keys one after another, and so counts those that pass a test. It stays
 -- within the index, and at its end it has met every page.
 use mathlib.Core.Path.{_≡_, sym, ap, _∙_}
 use mathlib.Core.Bool.{Bool, true, false}
@@ -31,7 +31,7 @@ module _ {slots by-key : List ℕ} {held : ℕ} (r : Readable slots by-key held)
   }
 
 -- ── the walk, place by place ─────────────────────────────────────────────────
--- so many of the first i pages of the walk are so
+-- `count` of the first i pages of the walk pass the test
 pub record Met (test : Page → Bool) (slots by-key : List ℕ) (held i count : ℕ) : Type 0 where
   pub within : i ≤ held
   pub number : count ≡ length (those test (walk slots by-key i))

@@ -1,5 +1,5 @@
--- Where the walk may begin: it meets no chosen page before that place, so that none is missed. Keys ascend along the index,
--- so the place of the limit is such a place for the pages with a key above it.
+-- Where the walk may begin: no page before that place is chosen, so that none is missed. Keys ascend along the index, so the walk over
+-- the keys above the limit may begin at the limit's place.
 use mathlib.Core.Path.{_≡_, sym, ap, _∙_, subst}
 use mathlib.Core.Bool.{false}
 use mathlib.Core.List.{List, [], _++_}

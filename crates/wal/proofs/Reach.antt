@@ -1,4 +1,4 @@
--- So many frames lie within a log if there are no more of them than the quotient of what follows the header by their length.
+-- A number of frames lie within a log exactly if it is at most the bytes after the header divided by the frame length, rounded down.
 use mathlib.Core.Path.{_≡_, refl, sym, _∙_}
 use mathlib.Core.Bool.{Bool, true, false}
 use mathlib.Core.List.{List}

@@ -1,4 +1,4 @@
--- Four additions that wrap make the sums of a pair: a sum that wraps at each of two additions is the sum of three, cut once.
+-- Four additions that wrap make the sums of a pair: two wrapping additions of three numbers are their sum, wrapped once.
 use mathlib.Core.Path.{_≡_, _∙_}
 use Prim.Native.Nat.{ℕ, _+_, _%_, _^_}
 use native.Mathlib.Nat.{add-mod-mod}

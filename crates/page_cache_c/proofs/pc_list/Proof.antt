@@ -1,4 +1,4 @@
--- The listing comes to what it says with the head that was read.
+-- The listing's contract, for the head that was read.
 use mathlib.Core.Path.{refl}
 use borrow.Author.Needs.{needs}
 use Rattle.page_cache_c.specs.Exports.{unlisted}

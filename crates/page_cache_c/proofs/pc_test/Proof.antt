@@ -1,4 +1,4 @@
--- The test tells what is sound.
+-- The code is the answer of the soundness test.
 use mathlib.Core.Path.{refl}
 use borrow.Author.Needs.{needs}
 use Rattle.page_cache_c.specs.Exports.{untested}

@@ -1,4 +1,4 @@
--- A list that is too short is refused; then a dirty page is, if there is one that counts; and otherwise everything goes.
+-- A list that is too short is refused; then a dirty page refuses, unless dirty pages go too; and otherwise all pages are removed.
 use mathlib.Core.Path.{refl}
 use borrow.Author.Needs.{needs}
 use Rattle.model.specs.Call.{clear}

@@ -1,4 +1,4 @@
--- Dirty pages that are to go too stand against nothing.
+-- If dirty pages are to go too, nothing hinders.
 
 use Rattle.clearing.proofs.clearing.what_hinders.Statement.{statement}
 use Rattle.clearing.proofs.clearing.what_hinders.Tie as tie

@@ -9,7 +9,7 @@ use Rattle.deletion.proofs.Deleting.{some-reason, page-goes, page-stays
 use Rattle.deletion.proofs.deletion.delete_page.Statement.{statement}
 use Rattle.deletion.proofs.deletion.delete_page.Tie as tie
 
--- in the arm of the reasons there is one
+-- in this arm there is a reason against the deletion
 may-not : (c : tie.At-match-keys2) → c .before .deletable .result ≢ Yes
 may-not c granted = some-reason (rw granted at (c .match .keys2))
 

@@ -1,4 +1,4 @@
--- `|` works digit by digit, and the number it adds has the slot's digit alone.
+-- `|` works digit by digit, and its mask has the slot's digit alone.
 use Rattle.free_marks.proofs.Marking.{marked-free}
 use borrow.Author.Needs.{needs}
 use Rattle.free_marks.proofs.marks.mark_free.Statement.{statement}

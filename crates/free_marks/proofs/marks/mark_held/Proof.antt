@@ -1,4 +1,4 @@
--- `&` works digit by digit, and the number it keeps by lacks the slot's digit alone.
+-- `&` works digit by digit, and its mask has every digit but the slot's.
 use Rattle.free_marks.proofs.Marking.{marked-held}
 use borrow.Author.Needs.{needs}
 use Rattle.free_marks.proofs.marks.mark_held.Statement.{statement}

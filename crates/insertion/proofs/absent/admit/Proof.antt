@@ -1,4 +1,4 @@
--- Room is made or not, and the form decides over the page for which there is none.
+-- Room is made, or the form decides whether the page goes in without it.
 use borrow.Author.Needs.{needs}
 use native.Mathlib.Omega.{arith}
 use mathlib.Core.Path.{_∙_}

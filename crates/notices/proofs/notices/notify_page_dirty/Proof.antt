@@ -1,4 +1,4 @@
--- The estimate follows the notice, or nothing does.
+-- The estimate follows the notice, or nothing changes.
 use mathlib.Core.Path.{refl, sym, _∙_}
 use borrow.Author.Tests.{not-true, not-false}
 use borrow.Author.Needs.{needs}

@@ -1,4 +1,4 @@
--- The search tells whether there is such a page.
+-- The search answers whether there is such a page.
 use borrow.Author.Needs.{needs}
 use Rattle.notices.proofs.Heads.{noticed-none, noticed-some}
 use Rattle.notices.proofs.notices.takes_notice.Statement.{statement}

@@ -1,4 +1,4 @@
--- The number stays a page's, or 0, and each turn takes one digit.
+-- The number stays one that a page can have, or 0, and each turn takes one digit.
 use Prim.Native.Nat.{_-_, _≤_}
 use lib.ListN.{length}
 use borrow.Author.Needs.{needs}

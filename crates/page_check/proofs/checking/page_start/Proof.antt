@@ -6,7 +6,7 @@ use borrow.Author.Needs.{needs}
 use Rattle.page_check.proofs.checking.page_start.Statement.{statement}
 use Rattle.page_check.proofs.checking.page_start.Tie as tie
 
--- so many bytes at most stand before the page
+-- the most bytes that can stand before a page
 before : (c : tie.Start) → (c .args .number - 1) * c .args .page-size ≤ 4294967295 * 65536
 before c = mul-le-mul {n₂ = 4294967295} {m₂ = 65536} (omega arith) (omega arith)
 

@@ -1,4 +1,4 @@
--- Each comparison tells its own part, and too many slots are refused before their lengths are reckoned.
+-- Each comparison is one part of the definition, and too many slots are refused before lengths are computed from their number.
 use mathlib.Core.Path.{refl}
 use native.Mathlib.Omega.{arith}
 use borrow.Author.Needs.{needs}

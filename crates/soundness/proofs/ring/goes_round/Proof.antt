@@ -1,4 +1,4 @@
--- What is left of the walk is there exactly if the whole walk is, turn by turn.
+-- At each turn the rest of the walk exists exactly if the whole walk does.
 use native.Mathlib.Omega.{arith}
 use Rattle.pool.specs.Slots.{entries}
 use Rattle.soundness.proofs.Walking.{Walking, walking-start, walking-out, walking-free, walking-wild, walking-cut, walking-home, walking-on}

@@ -1,4 +1,4 @@
--- Each comparison tells its own part.
+-- Each comparison is one part of the definition.
 use Rattle.pool.proofs.Tells.{tells-eq, tells-and, tells-as}
 use Rattle.soundness.proofs.Passes.{tells-le}
 use Rattle.soundness.proofs.slots.is_filled.Statement.{statement}

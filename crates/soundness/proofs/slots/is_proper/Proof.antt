@@ -1,4 +1,4 @@
--- A mark is 0 or 1, and the answer for the other one says nothing.
+-- A mark is 0 or 1, and nothing is required for the other value.
 use native.Mathlib.Omega.{arith}
 use borrow.Author.Needs.{needs}
 use Rattle.soundness.proofs.Bits.{proper-free, proper-held}
