@@ -9,14 +9,14 @@
 #include <stdlib.h>
 #include <string.h>
 
-/* A round goes over the pages as often as so many checks take, or so many pointers and freeblocks. It is short, so that on a busy
- * machine some rounds are not disturbed. */
+/* A round goes over the pages until it has made about ROUND_CHECKS checks or read about ROUND_FIELDS pointers and freeblocks. It is short,
+ * so that on a busy machine some rounds are not disturbed. */
 enum { ROUNDS = 1500, PAGES = 64, ROUND_CHECKS = 2000, ROUND_FIELDS = 100000 };
 enum { CHANGES = 400000, MOST_CHANGED = 3, ANSWERS = CELL_POINTER + 1 };
 
 enum { LEAF, SOME_FREE, HALF_FREE, SHORT_CELLS, INTERIOR, PAGE_1, SMALL, LARGE, MEASURED, SHAPES = 13 };
 
-/* Those that are measured, and then some with reserved bytes, or empty, that only have to be agreed on. */
+/* Shapes that are measured, and then some with reserved bytes, or empty, on which the two checks only have to agree. */
 static const struct shape shapes[SHAPES] = {
     [LEAF] = {"leaf", 4096, 2, 0, 13, 100, 0, 38},
     [SOME_FREE] = {"leaf, some free", 4096, 2, 0, 13, 95, 5, 38},
@@ -129,7 +129,7 @@ static void agree_on_sizes(const struct page *page)
     expect(lent, USABLE_SIZE, 0);
 }
 
-/* Where a change tells: in the header, in a freeblock's link or size, or in a pointer; or anywhere. */
+/* A place where a change is likely to matter: in the header, in a freeblock's link or size, or in a pointer; or anywhere. */
 static size_t place_to_change(const struct page *page)
 {
     const struct shape *shape = page->shape;

@@ -94,7 +94,7 @@ static void agree_on_damage(uint32_t page_size, int big)
 {
     struct log log = made(HEADER + FEW * (FRAME + (size_t)page_size), page_size, big);
     for (int i = 0; i < DAMAGES; i++) {
-        /* every other time where it is told by more than the sums of a page: in the log's header or in a frame's */
+        /* every other time in the log's header or in a frame's, where other tests than the sums of a page find it too */
         size_t at = any() % log.length;
         if (i % 2 == 0)
             at = any() % 2 == 0 ? any() % HEADER : HEADER + any() % log.frames * (FRAME + page_size) + any() % FRAME;

@@ -4,8 +4,8 @@
  * nothing but what its code says. What each does, to the last word, is its contract in crates/page_cache_c/specs/Exports.antt, and
  * it is proved.
  *
- * What C has to see to, since no proof can: a pointer is not null and has as many elements behind it as the length beside it
- * says, and two things that are lent to one call don't overlap.
+ * What the C program has to make sure of, since no proof can: a pointer is not null and has as many elements behind it as the
+ * length beside it says, and two things that are lent to one call don't overlap.
  *
  * A pool of S slots is four arrays and a head:
  *
@@ -15,7 +15,8 @@
  *     uint64_t marks[PC_MARK_WORDS(S)];       a bit for each free slot
  *     uint64_t head[PC_HEAD_NUMBERS];         capacity, held, hand, spill switch, estimate
  *
- * A call is lent a list for handles too. A list of S places is always long enough.
+ * What stands in each word is drawn at the top of crates/memory/src/lib.rt. A call is lent a list for handles too. A list of S places
+ * is always long enough.
  *
  * One thread at a time: nothing here locks. The functions keep nothing between calls but what they are lent, so that each thread may
  * have a pool of its own. A pool that threads share needs a lock around each call and around what is read of its list and head. */
@@ -38,12 +39,12 @@ extern "C" {
 #define PC_HEAD_NUMBERS 5
 #define PC_RECORD_BYTES 32
 #define PC_ANSWER_NUMBERS 6
-/* The numbers that pc_list writes to a page. */
+/* The numbers that pc_list writes for a page. */
 #define PC_PAGE_NUMBERS 8
 
 /* The places of a head's numbers. */
 enum pc_head_place {
-    PC_HEAD_CAPACITY = 0,     /* how many pages insertion makes room for */
+    PC_HEAD_CAPACITY = 0,     /* the most pages to hold; forced insertion may exceed it */
     PC_HEAD_HELD = 1,         /* pages held */
     PC_HEAD_HAND = 2,         /* the hand's slot, or 0 if nothing is held */
     PC_HEAD_SPILL = 3,        /* the spill switch, 0 or 1 */
@@ -112,7 +113,7 @@ enum pc_code {
 enum pc_operation {
     PC_OP_CREATE = 0,          /* makes a cache with this capacity; nothing is held, and spill is on (number: capacity) */
     PC_OP_INSERT = 1,          /* inserts a page under an absent or stale key, and makes room for it (key, handle, page) */
-    PC_OP_FORCE_INSERT = 2,    /* inserts as insert does; where that answers full, above the capacity (key, handle, page) */
+    PC_OP_FORCE_INSERT = 2,    /* inserts as insert does; if that answers full, beyond the capacity (key, handle, page) */
     PC_OP_FORCE_UPSERT = 3,    /* inserts as force_insert does, or replaces the page that is there (key, handle, page) */
     PC_OP_GET = 4,             /* looks a page up and touches it; a stale page is deleted, and is not found (key) */
     PC_OP_PEEK = 5,            /* looks a page up, and touches it only if asked (key, option: touch) */
@@ -125,7 +126,7 @@ enum pc_operation {
     PC_OP_NOTIFY_DIRTY = 11,   /* tells that a page became dirty: one page less counts as evictable (key) */
     PC_OP_NOTIFY_SPILLED = 12, /* tells that a page was spilled: one page more counts as evictable (key) */
     PC_OP_WRITE_RECORD = 13,   /* writes the page record of a key (key, page) */
-    PC_OP_CHECK_SPILL = 14,    /* selects at most so many pages to spill, if a spill is needed (number: most) */
+    PC_OP_CHECK_SPILL = 14,    /* selects pages to spill, up to the number asked for, if a spill is needed (number: most) */
     PC_OP_EVICT_ONE = 15,      /* evicts one page */
     PC_OP_SET_SPILL = 16       /* turns spilling off or on (option: off or on) */
 };

@@ -45,7 +45,7 @@ pub record Refuses (before : State) (head : PageCache) (after : State) (r : Answ
   pub state : after ≡ before
   pub answer : r ≡ plainly BadReplay head
 
--- ── any request, on memory that is sound if it has to be ─────────────────────
+-- ── any request, on memory that is sound if a call is asked for ──────────────
 abbrev pub Runs : Request → (before : State) (head : PageCache) (after : State) (r : Answered) → Type 0
 Runs none before head after r = Refuses before head after r
 Runs (creation capacity) before head after r = Creation capacity before head after r

@@ -21,7 +21,7 @@ fn marks_agree(pool: &Pool, held: usize) -> bool {
     !beyond && size - pool.marks.iter().map(|word| word.count_ones() as usize).sum::<usize>() == held
 }
 
-/// A walk from the hand that is back there after as many steps as pages are held, and no sooner.
+/// A walk from the hand that comes back to it after exactly `held` steps, and not before.
 fn is_ring(pool: &Pool, held: usize, hand: usize) -> bool {
     let size = pool.by_key.len();
     if held == 0 || hand >= size {

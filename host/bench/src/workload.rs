@@ -39,7 +39,7 @@ pub struct Load {
     /// The pages held before the calls, in the order of their insertion.
     pub held: Vec<Record>,
     pub calls: Vec<Record>,
-    /// How many looks a call is; 1 for all loads but one.
+    /// How many looks a call makes, for the load that is counted by looks; 1 for all others.
     pub looks: usize,
 }
 
@@ -112,7 +112,7 @@ impl Load {
         Load { name: shape.name(), held, calls, looks: if shape == Shape::Look { 4 * pages } else { 1 } }
     }
 
-    /// How many of what is counted the calls are.
+    /// The number of steps that are timed: calls, or looks for the load that is counted by looks.
     pub fn steps(&self) -> usize {
         self.calls.len() * self.looks
     }

@@ -25,7 +25,7 @@ pub struct PageCache<'a> {
 }
 
 impl PageCache<'static> {
-    /// A cache with a pool of so many slots, 1 to 4,096, and this capacity, at most as many.
+    /// A cache with a pool of `slots` slots, 1 to 4,096, and this capacity, at most `slots`.
     ///
     /// ```
     /// # use page_cache::PageCache;
@@ -33,7 +33,7 @@ impl PageCache<'static> {
     /// assert!(PageCache::new(4097, 2000).is_err());
     /// ```
     pub fn new(slots: usize, capacity: u64) -> Result<Self, CacheError> {
-        // so that nothing is set aside for a pool that is refused
+        // more slots than a pool may have are refused, so no memory is allocated for the rest of them
         let mut cache = PageCache::over(Memory::owned(slots.min(sys::MAX_SLOTS + 1)));
         cache.create(capacity)?;
         Ok(cache)
@@ -95,7 +95,7 @@ impl<'a> PageCache<'a> {
         }
     }
 
-    /// What a call answers that alters nothing and lists nothing. [`PageCache::last`] and [`PageCache::listed`] stay those of the
+    /// The answer of a call that alters nothing and lists nothing. [`PageCache::last`] and [`PageCache::listed`] stay those of the
     /// call before it.
     fn asked<T>(&mut self, call: impl FnOnce(&mut Self) -> T) -> T {
         let last = self.last;
@@ -153,7 +153,7 @@ impl<'a> PageCache<'a> {
         self.done(Record::new(Operation::Insert).with_key(key).with_handle(handle).with_page(page))
     }
 
-    /// Inserts as [`PageCache::insert`] does, and if the cache is full above its capacity.
+    /// Inserts as [`PageCache::insert`] does, and beyond the capacity if no room can be made.
     pub fn force_insert_page(&mut self, key: PageCacheKey, handle: PageHandle, page: Page) -> Result<(), CacheError> {
         self.done(Record::new(Operation::ForceInsert).with_key(key).with_handle(handle).with_page(page))
     }
@@ -253,7 +253,7 @@ impl<'a> PageCache<'a> {
         self.found(Record::new(Operation::WriteRecord).with_key(key).with_page(page)).map(|found| found.is_some())
     }
 
-    /// Which pages to spill, at most so many, if a spill is needed.
+    /// Which pages to spill, `max_pages` at most, if a spill is needed.
     ///
     /// ```
     /// # use page_cache::{Page, PageCache, PageCacheKey, PageHandle, SpillResult};
@@ -340,7 +340,7 @@ impl<'a> PageCache<'a> {
         self.len() == 0
     }
 
-    /// How many pages insertion makes room for, as the head says.
+    /// The most pages to hold, as the head says. Forced insertion may exceed it.
     pub fn capacity(&self) -> u64 {
         self.memory.head[sys::head::CAPACITY]
     }

@@ -39,7 +39,7 @@ pub struct Memory<'a> {
 }
 
 impl Memory<'static> {
-    /// Zeros for so many slots. That is no cache yet.
+    /// Zeros for a pool of `slots` slots. That is no cache yet.
     pub fn owned(slots: usize) -> Self {
         Memory {
             slots: Part::Owned(vec![0; sys::SLOT_WORDS * slots].into()),

@@ -19,7 +19,7 @@ pub const NO_KEY: u64 = 1 << 32;
 
 /// The places of a head's numbers.
 pub mod head {
-    /// How many pages insertion makes room for.
+    /// The most pages to hold. Forced insertion may exceed it.
     pub const CAPACITY: usize = 0;
     /// Pages held.
     pub const HELD: usize = 1;

@@ -27,7 +27,7 @@ struct Lengths {
 }
 
 impl Lengths {
-    /// Those of a pool with so many slots.
+    /// Those of a pool with `size` slots.
     const fn of(size: usize) -> Self {
         Lengths { slots: 4 * size, by_key: size, by_handle: size, marks: size.div_ceil(64) }
     }

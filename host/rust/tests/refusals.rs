@@ -110,7 +110,7 @@ fn errors_that_methods_answer_otherwise() {
     assert_eq!((cache.check_spill(0), cache.last().error()), (Ok(SpillResult::CacheFull), Some(CacheError::NoneSelected)));
 }
 
-/// A cache lends its calls a list as long as its pool, so that this comes only to who lends a list of his own.
+/// A cache lends its calls a list as long as its pool, so that only a caller who lends another list gets this answer.
 #[test]
 fn a_short_list() {
     let (mut slots, mut by_key, mut by_handle, mut marks) = ([0; sys::SLOT_WORDS], [0; 1], [0; 1], [0; 1]);
