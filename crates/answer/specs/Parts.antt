@@ -17,7 +17,7 @@ pub record SoundParts (slots by-key : List ℕ) (head : PageCache) : Type 0 wher
   pub marks : List ℕ
   pub sound : Sound (memoryOf slots by-key by-handle marks) head
 
--- whatever the other parts are, and whichever cache the memory holds: the call came to the outcome that the model's step has
+-- whatever the other parts are, and for every cache that the memory holds: the call came to the outcome that the model's step has
 abbrev pub FollowsStep : Call → (slots by-key : List ℕ) → PageCache → (slots′ : List ℕ) → Answered → Type 0
 FollowsStep call slots by-key head slots′ r =
     (by-handle marks : List ℕ) (c : Cache) → Holds (memoryOf slots by-key by-handle marks) head c

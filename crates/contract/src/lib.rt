@@ -4,7 +4,6 @@
 // altered; or the answer, the list and every lent word after the call are what the model's `step` says.
 //
 // What follows from that for every call is proved once, over the contract. It is deterministic: two outcomes that it allows from the
-// same memory, head and list are the same outcome (proofs/Same.antt). Wherever a contract is called deterministic here, this is meant.
-// A refusal by a test alters nothing (Refused.antt). Memory that only calls have changed since its creation holds what the model's
-// run of those calls comes to (Following.antt). Demand 3 is proved of the public calls too: one eviction and the evictions of any call
-// (specs/Eviction.antt), and the ledger of uses (specs/Ledger.antt).
+// same memory, head and list are the same outcome (proofs/Same.antt). A refusal by a test alters nothing (Refused.antt). Memory that
+// only calls have changed since its creation holds what the model's run of those calls comes to (Following.antt). Demand 3 is proved of
+// the public calls too: one eviction and the evictions of any call (specs/Eviction.antt), and the ledger of uses (specs/Ledger.antt).

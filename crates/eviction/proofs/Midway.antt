@@ -93,7 +93,7 @@ module _ {es : List PageCacheEntry} {seats : List ℕ} {held : ℕ} {es′ : Lis
   }
 
 -- ── the loop ─────────────────────────────────────────────────────────────────
--- there are as many words as before, at most 4 * held looks were made, and the ring is midway, whichever seats it had
+-- there are as many words as before, at most 4 * held looks were made, and the ring is midway, whatever seats it had
 pub record Going (slots : List ℕ) (hand : Slot) (held : ℕ) (slots′ : List ℕ) (at : Slot) (passed : ℕ) : Type 0 where
   pub long : length slots′ ≡ length slots
   pub within : passed ≤ suc refMax * held

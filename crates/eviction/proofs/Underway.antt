@@ -33,7 +33,7 @@ pub record Underway (m : Memory) (head : PageCache) (list : List ℕ) (from targ
   pub places : count + head′ .held ≤ length list
   -- each page that went stands for at most 4 * maxSlots passed
   pub small : passed + suc refMax * maxSlots * head′ .held ≤ suc refMax * maxSlots * maxSlots
-  -- and the evictions go on to what all of them come to, whichever cache the memory held at first
+  -- and the evictions that are left come to what all of them come to, whatever cache the memory held at first
   pub toward : (c : Cache) → Holds m head c → Toward (evictTo target c) target m′ head′ passed gone
 
 -- no more pages are held than a pool may have slots

@@ -31,8 +31,8 @@
 //     head                   each call hands back the head after it, and the caller keeps it for the next call
 //     all of it              creating, and clearing by creating again
 //
-// The caller may read all of it between calls. It has no reason to write any: a public call that finds memory which is not sound
-// answers 1 (crate soundness).
+// The caller may read all of it between calls, and should write none: a public call tests it first, and answers 1 if it is not sound
+// (crate soundness).
 //
 // `Holds memory head cache` says that memory and head hold a cache of the model (crate model), and `Sound memory head` that
 // they hold some cache. A memory determines the cache that it holds, and a cache determines its memory: so a contract that gives the

@@ -48,7 +48,7 @@ module _ (may : Page → Bool) where
   unfolding lower
   lower-le r e = lower-count-le (may (e .page)) (e .uses) r
 
-  -- ── entries with at least so many uses ─────────────────────────────────────
+  -- ── entries with at least r uses ───────────────────────────────────────────
   -- the entry has at least r uses, if it may go at all
   abbrev pub AtLeast : ℕ → Entry → Type 0
   AtLeast r e = may (e .page) ≡ true → r ≤ e .uses

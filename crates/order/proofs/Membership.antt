@@ -1,4 +1,4 @@
--- Whether a slot is in a list, as a Bool: it is so exactly if the slot stands at a place, and an element in the middle may
+-- Whether a slot is in a list, as a Bool: yes exactly if the slot stands at some place, and an element in the middle may
 -- as well stand in front.
 use mathlib.Core.Path.{_≡_, refl, sym, ap, _∙_}
 use mathlib.Core.Bool.{Bool, true, false, _||_, true≢false}

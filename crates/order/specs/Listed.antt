@@ -1,4 +1,4 @@
--- An index and the seats that it lists: the same slots, in whatever order the seats are given.
+-- An index and the seats, the held slots, that it lists: the same slots, in whatever order the seats are given.
 use mathlib.Core.Path.{_≡_}
 use mathlib.Core.Bool.{true}
 use mathlib.Core.List.{List, _∷_, _++_}

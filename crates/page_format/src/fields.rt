@@ -5,7 +5,7 @@ ghost use lib.Dec.{leb};
 ghost use lib.ListN.{length};
 ghost use Rattle.page_format.specs.Fields.{half, headerAt, isInterior, isKind, startAt, arrayAt};
 
-// A page has at least so many bytes without the reserved ones.
+// The least number of bytes of a page without the reserved ones.
 const LEAST_USABLE: usize = 480;
 
 // Where the b-tree page header of a page stands.

@@ -7,7 +7,7 @@
 //     selection.rt   check_spill, collect_spillable_pages: rule 14, and the call. One walk, which stops when enough are selected
 //
 // Callers lend two parts of a sound memory (`Readable`, specs/Parts.antt). They may rely on the answers being the model's for
-// whichever cache the memory holds; `check_spill` makes the test of its list too, and comes to the model's step.
+// every cache that the memory holds; `check_spill` makes the test of its list too, and comes to the model's step.
 mod need;
 mod selection;
 mod walk;

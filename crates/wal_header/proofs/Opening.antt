@@ -17,7 +17,7 @@ use Rattle.wal_header.specs.declared.header.Opened.{Opened}
 use Rattle.wal_header.specs.declared.header.Opened.the-variants.{Refused, Log}
 
 -- ── what was read ────────────────────────────────────────────────────────────
--- what a test said of a number that was read is so of the number in the log
+-- what a test said of a number that was read holds of the number in the log
 pub tested : {known v : Bool} {m n : ℕ} (test : ℕ → Bool) → known ≡ test m → m ≡ n → known ≡ v → test n ≡ v
 tested test tells is was = ap test (sym is) ∙ sym tells ∙ was
 
