@@ -58,7 +58,7 @@ pub record Toward (room : Room) (target : ℕ) (m : Memory) (head : PageCache) (
   pub gone : went ++ evictTo target now .gone ≡ room .gone
   pub cache : evictTo target now .cache ≡ room .cache
 
--- they have come to it
+-- the evictions are done, and the room is what they came to
 pub record Reached (room : Room) (m : Memory) (head : PageCache) (is-full : Bool) (count : ℕ) (went : List ℕ) : Type 0 where
   pub holds : Holds m head (room .cache)
   pub full : is-full ≡ room .full

@@ -1,5 +1,5 @@
 -- A row within its limits stays so when the hand moves, a page goes, a page is changed in place or a page enters: each limit
--- is a fact of each entry or of different numbers.
+-- is about each entry alone, or says that numbers differ.
 use mathlib.Core.Bool.{Bool}
 use mathlib.Core.List.{[], _∷_, _++_}
 use mathlib.Core.Path.{_≡_, refl, sym}

@@ -1,4 +1,4 @@
--- What the functions of this crate ask, a caller on sound memory has.
+-- Sound memory meets what the functions of this crate require.
 use mathlib.Core.Path.{refl}
 use Rattle.page.specs.declared.cache.PageCache.{PageCache}
 use Rattle.memory.specs.Memory.{Memory}
