@@ -1,4 +1,4 @@
-"""docs/RULES.md and docs/READING.md name what is there, and what the sources cite by number stands in docs/RULES.md."""
+"""docs/RULES.md, READING.md and PROVING.md name what is there, and what the sources cite by number stands in docs/RULES.md."""
 
 import fnmatch
 import functools
@@ -7,7 +7,7 @@ import re
 import unittest
 
 TOP = os.path.dirname(os.path.dirname(os.path.dirname(os.path.abspath(__file__))))
-RULES, READING = 'docs/RULES.md', 'docs/READING.md'
+RULES, READING, PROVING = 'docs/RULES.md', 'docs/READING.md', 'docs/PROVING.md'
 SOURCES = ('.ci', 'crates', 'host', 'oracle', 'tools')
 
 WORD = re.compile(r'[^\W\d][\w′]*(?:-[\w′]+)*')
@@ -132,7 +132,7 @@ def without_definition(text):
 
 class Documents(unittest.TestCase):
     def none(self, wrong_in):
-        for path in (RULES, READING):
+        for path in (RULES, READING, PROVING):
             self.assertEqual(wrong_in(content(path)), [], path)
 
     def test_paths(self):
