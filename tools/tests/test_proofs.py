@@ -79,6 +79,18 @@ pub total-spec : {M : Type 1} → statement M
 total-spec = tie.close (tie.spec Inv-loop μ-loop loop-holds put-requires)
 '''
 
+MAIN = '''\
+use borrow.Author.Needs.{needs}
+use Rattle.sums.proofs.adding.main.Statement.{statement}
+use Rattle.sums.proofs.adding.main.Tie as tie
+
+expect-requires : tie.Need-expect-requires
+expect-requires c κs = ?
+
+pub main-spec : {M : Type 1} → statement M
+main-spec = tie.close (tie.spec (λ c κs. search needs) expect-requires)
+'''
+
 # What rt makes of a function that tests its memory, and then is refused or calls another. It has much else between these lines.
 LTS = '''\
         pub record Args : Type 0 where
@@ -202,10 +214,32 @@ class Skeleton(unittest.TestCase):
         self.assertEqual(SKELETON.skeleton(begun.format('?')), f'{SKELETON.NEEDS}\n' + begun.format('search needs'))
 
     def test_no_loop(self):
-        """What the search has not closed stays a hole."""
+        """What the search has closed stands in the tie's call, and what it has not stays a hole."""
         _, (_, text) = SKELETON.printed(SAID)
-        self.assertEqual(SKELETON.skeleton(text), ''.join(line for line in text.splitlines(True) if not line.startswith('-- ')))
-        self.assertIn('\nexpect-requires c κs = ?\n', SKELETON.skeleton(text))
+        self.assertEqual(SKELETON.skeleton(text), MAIN)
+
+    def test_long_call(self):
+        """Equal answers stand together, and names do, as far as a line goes."""
+        need = '{0} : tie.Need-{0}\n{0} {1} = {2}\n\n'
+        needs = [(f'same-length-{i}', 'c', 'search needs') for i in range(2, 10)] + [('sum-requires', 'c κs', 'search needs')]
+        needs += [('returns', 'c', 'c .sum .ensures')]
+        text = ''.join(need.format(*words) for words in needs)
+        text += f'sum-spec =\n    tie.close\n    (tie.spec\n    {" ".join(words[0] for words in needs)})\n'
+        self.assertEqual(SKELETON.inlined(text), need.format(*needs[-1]) + 'sum-spec =\n    tie.close\n    (tie.spec\n'
+                         + '   ' + ' (λ c. search needs)' * 6 + '\n   ' + ' (λ c. search needs)' * 2 + ' (λ c κs. search needs) returns)\n')
+        self.assertEqual(SKELETON.lines_of(['returns', 'b' * 125, 'evict-requires', '(λ c. search needs)']),
+                         ['    returns', f'    {"b" * 125}', '    evict-requires (λ c. search needs)'])
+        self.assertEqual(SKELETON.lines_of(['evict-requires', *['(λ c. search needs)'] * 6]),
+                         ['    evict-requires', '   ' + ' (λ c. search needs)' * 6])
+
+    def test_nothing_searched(self):
+        text = 'sum-spec =\n    tie.close\n    (tie.spec\n    sum-requires\n    returns)\n'
+        self.assertEqual(SKELETON.inlined(text), text)
+
+    def test_by_hand(self):
+        """A function that has no needs is proved by hand."""
+        text = 'use Rattle.sums.proofs.count.Statement.{statement}\n\ncount-spec 𝓤 H 𝓜 𝓖 𝓡 = ?\n'
+        self.assertEqual(SKELETON.skeleton(text), text)
 
     def test_written(self):
         with tempfile.TemporaryDirectory() as top:
@@ -213,7 +247,9 @@ class Skeleton(unittest.TestCase):
             os.makedirs(kept)
             with open(os.path.join(kept, 'Proof.antt'), 'w', encoding='utf-8') as file:
                 file.write('a proof')
-            self.assertEqual(ran(SKELETON, 'sums', run=rt_that(says=SAID, status=1), top=top),
+            # rt says whole paths, too
+            said = SAID.replace('write crates/', f'write {top}/crates/')
+            self.assertEqual(ran(SKELETON, 'sums', run=rt_that(says=said, status=1), top=top),
                              (0, 'crates/sums/proofs/total/Proof.antt\n', ''))
             with open(os.path.join(top, 'crates/sums/proofs/total/Proof.antt'), encoding='utf-8') as file:
                 self.assertEqual(file.read(), TOTAL)
