@@ -116,13 +116,6 @@ module _ {m : List ℕ} {s : ℕ} (below : HeldBelow m s) where
   pub below-found : bitAt m s ≡ 1 → LowestFree m s
   below-found free = record { free = free; least = below .each }
 
--- there is only one lowest free slot
-pub lowest-once : {m : List ℕ} {s s′ : ℕ} → LowestFree m s → LowestFree m s′ → s ≡ s′
-lowest-once {m} {s} {s′} a b =
-    let p : s ≤ s′ = below-not {m = m} record { each = a .least } (b .free) in
-    let q : s′ ≤ s = below-not {m = m} record { each = b .least } (a .free) in
-    omega arith
-
 -- ── the words of the marks ───────────────────────────────────────────────────
 word-of : (w i : ℕ) → i < 64 → (w * 64 + i) / 64 ≡ w
 word-of w i h = omega arith

@@ -3,8 +3,7 @@
 use mathlib.Core.Path.{_≡_, refl, sym, ap, _∙_}
 use mathlib.Core.List.{List, [], _∷_, _++_, map}
 use Prim.Native.Nat.{ℕ, _<_}
-use native.Mathlib.Omega.{arith}
-use lib.ListN.{length, getD, set, length-set, length-map}
+use lib.ListN.{length, getD, set, length-map}
 use lib.Seq.{getD-set-same, getD-set-other}
 use Rattle.page.specs.declared.entry.PageCacheEntry.{PageCacheEntry}
 use Rattle.pool.specs.Slots.{blank}
@@ -47,9 +46,6 @@ bare-map f blind [] = refl
 bare-map f blind (x ∷ es) = λ i. blind x i ∷ bare-map f blind es i
 
 module _ {es : List PageCacheEntry} {s : ℕ} {e : PageCacheEntry} {es′ : List PageCacheEntry} (w : Written es s e es′) where
-  pub written-long : length es′ ≡ length es
-  written-long = omega (arith, length-map es′ bare, length-map es bare, ap length (w .bared), length-set (map bare es) s (bare e))
-
   -- the slot has the entry
   pub bare-here : s < length es → bare (getD es′ s blank) ≡ bare e
   bare-here inside =

@@ -84,10 +84,6 @@ module _ (may : Page → Bool) where
   unfolding refused
   passed-full row l q = ap (λ (s : Swept). s .passed) (full-unchanged row l q)
 
-  pub held-full : (row : Row) → Each Limited row → (sweep may row) .victim ≡ none → length ((sweep may row) .row) ≡ length row
-  unfolding refused
-  held-full row l q = ap (λ (s : Swept). length (s .row)) (full-unchanged row l q)
-
   -- ── a page is taken ────────────────────────────────────────────────────────
   module _ (row : Row) (p : Page) (l : Each Limited row) (took : (sweep may row) .victim ≡ some p) where
     -- fewer than 4n pages were passed

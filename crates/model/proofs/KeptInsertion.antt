@@ -10,12 +10,12 @@ use Prim.Native.Nat.{ℕ, suc, _-_, _≤_, _<_, _^_}
 use native.Mathlib.Omega.{arith}
 use lib.Dec.{eqb, ltb}
 use lib.ListN.{length}
-use borrow.Author.Tests.{ltb-true, ltb-false, eqb-false}
+use borrow.Author.Tests.{ltb-true, ltb-false}
 use Rattle.page.specs.Record.{stale}
 use Rattle.page.specs.declared.record.PageRecord.{PageRecord}
 use Rattle.model.specs.Row.{Page, Entry, Row, Each, find}
-use Rattle.model.specs.Cache.{Cache, heldIn, countIn, lowestFree, enterRow, newPage, leave, touch}
-use Rattle.model.specs.Call.{Insertion, plain, forced, upsert, Outcome, answer, touching}
+use Rattle.model.specs.Cache.{Cache, heldIn, countIn, lowestFree, enterRow, newPage, leave}
+use Rattle.model.specs.Call.{Insertion, plain, forced, upsert, Outcome}
 use Rattle.model.specs.Rooms.{Room, makeRoom}
 use Rattle.model.specs.Rules.{deleting, place, onFull, inRoom, admit, keyExists, present, insertFound, onInsert}
 use Rattle.model.specs.Tests.{underOther}
@@ -52,13 +52,6 @@ module _ (key handle : ℕ) (state : PageRecord) where
 
   absent : (row : Row) → Each (Under key handle) row → Each (OtherKey key) row → Absent row
   absent row u o = record { keys = o; handles = absent-handle row u o }
-
-  -- ── code 9 ─────────────────────────────────────────────────────────────────
-  -- a present key with the same handle: one touch
-  pub code-9-touches : (p : Page) (c : Cache) → p .handle ≡ handle
-      → keyExists key handle state p c ≡ touching (answer 9 0 (touch key c))
-  code-9-touches p c same = either (λ (o : Outcome). o ≡ touching (answer 9 0 (touch key c))) (eqb (p .handle) handle)
-      (λ _. refl) (λ differs. absurd (eqb-false (p .handle) handle differs same))
 
   -- ── code 13 ────────────────────────────────────────────────────────────────
   -- no slot is free

@@ -2,7 +2,7 @@
 -- one: so a name that is found is the entry's, and one that isn't found is no entry's.
 use mathlib.Core.Path.{_≡_, refl, sym, ap, _∙_, subst}
 use mathlib.Core.Bool.{Bool, true, false, not, _&&_, true≢false}
-use mathlib.Core.List.{List, [], _∷_, _++_}
+use mathlib.Core.List.{List, [], _∷_}
 use mathlib.Core.Logic.{_≢_}
 use mathlib.Core.Option.{none, some}
 use Prim.Native.Nat.{ℕ}
@@ -20,16 +20,14 @@ use Rattle.order.specs.declared.search.By.the-variants.{Key, Handle}
 use Rattle.order.proofs.Names.{name-at}
 use Rattle.order.proofs.Listed.{hit-seat, hit-is, miss-absent}
 use Rattle.model.specs.Cache.{Cache}
-use Rattle.model.specs.Row.{Entry, Row, Each, find, without}
-use Rattle.model.specs.Limits.{Apart}
+use Rattle.model.specs.Row.{Entry, Row, Each, find}
 use Rattle.model.specs.Tests.{underOther}
-use Rattle.model.proofs.Numbers.{OtherKey, apart-others}
-use Rattle.model.proofs.ByKey.{find-stands, find-none, none-find, stands-without}
+use Rattle.model.proofs.ByKey.{none-find}
 use Rattle.memory.specs.Memory.{Memory}
 use Rattle.memory.specs.Holds.{seen, rowOf, Holds}
 use Rattle.memory.proofs.Rows.{each-seat, seat-each}
-use Rattle.memory.proofs.Standing.{each-without, seat-found}
-use Rattle.moves.specs.Moves.{KeyAt, NewNames}
+use Rattle.memory.proofs.Standing.{seat-found}
+use Rattle.moves.specs.Moves.{KeyAt}
 
 -- ── a handle under another key ───────────────────────────────────────────────
 module _ (key handle : ℕ) where
@@ -67,30 +65,6 @@ module _ (key handle : ℕ) where
   unfolding underOther
   each-under [] all = refl
   each-under (x ∷ row) all = rw (misfit-not x (all .0), underOther) (each-under row (all .1))
-
--- ── names that are new to a row ──────────────────────────────────────────────
-module _ (key handle : ℕ) where
-  -- a key that no entry has, and a handle that no entry has under another key
-  others-new : (row : Row) → Each (OtherKey key) row → Each (Fits key handle) row → NewNames key handle row
-  others-new row others fits = record { keys = others; handles = go row others fits }
-    where
-      go : (row : Row) → Each (OtherKey key) row → Each (Fits key handle) row → Each (λ x. handle ≢ x .page .handle) row
-      go [] others fits = tt
-      go (x ∷ row) others fits = ((λ q. others .0 (sym (fits .0 (sym q)))), go row (others .1) (fits .1))
-
-  pub absent-new : (row : Row) → find key row ≡ none → underOther key handle row ≡ false → NewNames key handle row
-  absent-new row absent free = others-new row (find-none key row absent) (under-each key handle row free)
-
-  -- and a key whose entry has gone
-  pub left-new : (row : Row) (e : Entry) → Apart (λ p. p .key) row → find key row ≡ some e → underOther key handle row ≡ false
-      → NewNames key handle (without key row)
-  left-new row e apart found free =
-      let f = find-stands key row e found in
-      let apart-here : Apart (λ p. p .key) (f .before ++ e ∷ f .after) = subst (Apart (λ p. p .key)) (f .parts) apart in
-      let others : Each (OtherKey key) (f .before ++ f .after) =
-      subst (λ (k : ℕ). Each (OtherKey k) (f .before ++ f .after)) (f .named) (apart-others (λ p. p .key) (f .before) e (f .after) apart-here) in
-      others-new (without key row) (subst (Each (OtherKey key)) (sym (stands-without key row e f)) others)
-      (each-without (Fits key handle) key row e found (under-each key handle row free))
 
 -- ── what is found, and what isn't ────────────────────────────────────────────
 module _ {m : Memory} {head : PageCache} {c : Cache} {n : ℕ} (H : Holds m head c) (held : head .held ≡ n) where

@@ -1,9 +1,9 @@
 -- What an index says of the seats that it lists, and that it goes on listing them: a slot comes in at the gap of its name,
 -- goes out from its place, or has its name written while it is no seat.
 use mathlib.Core.Path.{_≡_, refl, sym, ap, _∙_, subst}
-use mathlib.Core.Bool.{Bool, true, false, _||_, true≢false}
-use mathlib.Core.List.{List, [], _∷_, _++_}
-use Prim.Native.Nat.{ℕ, suc, _+_, _-_, _<_, zero-le}
+use mathlib.Core.Bool.{Bool, true, _||_, true≢false}
+use mathlib.Core.List.{List, _∷_, _++_}
+use Prim.Native.Nat.{ℕ, suc, _+_, _-_, _<_}
 use native.Mathlib.Omega.{arith}
 use native.Mathlib.Decide.{decLt}
 use lib.Dec.{eqb}
@@ -15,9 +15,9 @@ use Rattle.ring_links.specs.Ring.{has, Out, Apart}
 use Rattle.ring_links.specs.Links.{unlinked}
 use Rattle.order.specs.declared.search.By.{By}
 use Rattle.order.specs.Names.{nameOf, names}
-use Rattle.order.specs.Index.{All, Index, nameAt, Hit, Miss, Inserted, Removed}
+use Rattle.order.specs.Index.{Index, nameAt, Hit, Miss, Inserted, Removed}
 use Rattle.order.specs.Listed.{Listed, Fresh, Absent}
-use Rattle.order.proofs.Names.{names-set, names-kept, names-unlinked}
+use Rattle.order.proofs.Names.{names-kept, names-unlinked}
 use Rattle.order.proofs.Lists.{all-drop}
 use Rattle.order.proofs.Membership.{has-out, out-has, has-getD, Place, has-place, has-mid, apart-mid, same-without}
 use Rattle.order.proofs.Ascending.{less, asc-insert, asc-remove, asc-store, asc-apart, asc-names}
@@ -136,10 +136,6 @@ module _ {col order : List ℕ} {n : ℕ} (before : List ℕ) (s : ℕ) (after :
       fewer : n - 1 ≡ length (before ++ after)
       fewer = omega (arith, length-append before (s ∷ after), length-append before after)
 
--- ── nothing is listed ────────────────────────────────────────────────────────
-pub listed-none : (col order : List ℕ) → All (λ x. x ≡ 0) order → Listed col order []
-listed-none col order clear = record { index = record { fits = zero-le; asc = tt; clear = clear }; same = λ k. refl }
-
 -- ── what keeps an index ──────────────────────────────────────────────────────
 -- the name of a slot that is no seat is written
 pub listed-store : {col order seats : List ℕ} (s x : ℕ) → Listed col order seats → Out s seats → Listed (set col s x) order seats
@@ -169,10 +165,6 @@ module _ {order seats : List ℕ} (by : By) (es : List PageCacheEntry) (s : ℕ)
   -- an entry is stored that has the name of the one before
   pub listed-kept : (e : PageCacheEntry) → nameOf by e ≡ nameOf by (getD es s blank) → Listed (names by (set es s e)) order seats
   listed-kept e q = rw (names-kept by es s e q) l
-
-  -- an entry is stored at a slot that is no seat
-  pub listed-other : (e : PageCacheEntry) → Out s seats → Listed (names by (set es s e)) order seats
-  listed-other e o = rw (names-set by es s e) (listed-store s (nameOf by e) l o)
 
   -- a slot that is no seat any more leaves the ring
   pub listed-unlinked : Out s seats → Listed (names by (unlinked es s)) order seats

@@ -6,8 +6,8 @@ use Prim.Native.Nat.{ℕ, _<_}
 use lib.ListN.{length, getD, set, length-map}
 use Rattle.page.specs.declared.entry.PageCacheEntry.{PageCacheEntry}
 use Rattle.pool.specs.Slots.{blank}
-use Rattle.ring_links.specs.Links.{linkedFirst, linkedAfter, unlinked}
-use Rattle.ring_links.proofs.Columns.{map-set, kept, column-at, Linkless, column-first, column-after, column-unlinked}
+use Rattle.ring_links.specs.Links.{unlinked}
+use Rattle.ring_links.proofs.Columns.{kept, column-at, Linkless, column-unlinked}
 use Rattle.order.specs.declared.search.By.{By}
 use Rattle.order.specs.declared.search.By.the-variants.{Key, Handle}
 use Rattle.order.specs.Index.{Index}
@@ -39,9 +39,6 @@ index-slot by es i h = simp length-map at (ascending i .inside _ h)
 
 -- ── writing ──────────────────────────────────────────────────────────────────
 module _ (by : By) (es : List PageCacheEntry) (s : ℕ) (e : PageCacheEntry) where
-  pub names-set : names by (set es s e) ≡ set (names by es) s (nameOf by e)
-  names-set = map-set (nameOf by) es s e
-
   -- an entry of the same name is stored
   pub names-kept : nameOf by e ≡ nameOf by (getD es s blank) → names by (set es s e) ≡ names by es
   names-kept q = kept (nameOf by) es s q
@@ -52,11 +49,5 @@ names-linkless Key = record { blind = λ e next prev. refl }
 names-linkless Handle = record { blind = λ e next prev. refl }
 
 module _ (by : By) (es : List PageCacheEntry) where
-  pub names-first : (s : ℕ) (e : PageCacheEntry) → names by (linkedFirst es s e) ≡ set (names by es) s (nameOf by e)
-  names-first s e = column-first es s e (nameOf by) (names-linkless by)
-
-  pub names-after : (hand s : ℕ) (e : PageCacheEntry) → names by (linkedAfter es hand s e) ≡ set (names by es) s (nameOf by e)
-  names-after hand s e = column-after es hand s e (nameOf by) (names-linkless by)
-
   pub names-unlinked : (s : ℕ) → names by (unlinked es s) ≡ set (names by es) s (nameOf by blank)
   names-unlinked s = column-unlinked es s (nameOf by) (names-linkless by)

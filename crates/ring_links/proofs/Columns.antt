@@ -75,10 +75,6 @@ module _ (es : List PageCacheEntry) (k to : ℕ) where
 
 -- ── a first slot ─────────────────────────────────────────────────────────────
 module _ (es : List PageCacheEntry) (s : ℕ) (e : PageCacheEntry) where
-  pub length-first : length (linkedFirst es s e) ≡ length es
-  unfolding linkedFirst
-  length-first = length-set es s _
-
   pub column-first : {B : Type 0} (f : PageCacheEntry → B) → Linkless f → map f (linkedFirst es s e) ≡ set (map f es) s (f e)
   unfolding linkedFirst
   column-first f l = map-set f es s _ ∙ ap (set (map f es) s) (l .blind e s s)
@@ -91,10 +87,6 @@ module _ (es : List PageCacheEntry) (s : ℕ) (e : PageCacheEntry) where
 
 -- ── a slot after the hand ────────────────────────────────────────────────────
 module _ (es : List PageCacheEntry) (h s : ℕ) (e : PageCacheEntry) where
-  pub length-after : length (linkedAfter es h s e) ≡ length es
-  unfolding linkedAfter
-  length-after = simp (length-prev, length-next, length-set)
-
   pub column-after : {B : Type 0} (f : PageCacheEntry → B) → Linkless f → map f (linkedAfter es h s e) ≡ set (map f es) s (f e)
   unfolding linkedAfter
   column-after f l = column-prev _ _ _ f l ∙ column-next _ _ _ f l ∙ map-set f es s _ ∙ ap (set (map f es) s) (l .blind e (nextAt es h) h)
@@ -120,10 +112,6 @@ linkable {es} {h} g inside = record {
 
 -- ── a slot taken out ─────────────────────────────────────────────────────────
 module _ (es : List PageCacheEntry) (s : ℕ) where
-  pub length-unlinked : length (unlinked es s) ≡ length es
-  unfolding unlinked
-  length-unlinked = simp (length-set, length-prev, length-next)
-
   pub column-unlinked : {B : Type 0} (f : PageCacheEntry → B) → Linkless f → map f (unlinked es s) ≡ set (map f es) s (f blank)
   unfolding unlinked
   column-unlinked f l =

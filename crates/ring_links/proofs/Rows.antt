@@ -9,7 +9,6 @@ use native.Mathlib.Omega.{arith}
 use native.Mathlib.Decide.{ℕ-discrete}
 use lib.Dec.{eqb}
 use lib.ListN.{length, getD}
-use lib.Seq.{ext-getD}
 use Rattle.ring_links.specs.Ring.{Ring, Out, Way, Round, has, firstOf}
 use Rattle.ring_links.proofs.Rings.{turns, Ended, ended}
 
@@ -50,21 +49,6 @@ round-only n p p′ (b ∷ r) [] e f w w′ = absurd (omega arith)
 round-only n p p′ (b ∷ r) (b′ ∷ r′) e f w w′ =
     let t : r ≡ r′ = way-only n p p′ b b b′ r r′ (omega arith) w (subst (λ (x : ℕ). Way n p′ x r′ b′) (sym f) w′) in
     λ i. f i ∷ t i
-
--- a way that does not pass its end is the only one
-way-to-end : (n p p′ : List ℕ) (a z : ℕ) (r r′ : List ℕ) → Out z r → Out z r′ → Way n p a r z → Way n p′ a r′ z → r ≡ r′
-way-to-end n p p′ a z [] [] o o′ w w′ = refl
-way-to-end n p p′ a z [] (b ∷ r′) o o′ w w′ = absurd (o′ .0 (sym (w .0) ∙ w′ .0 .0))
-way-to-end n p p′ a z (b ∷ r) [] o o′ w w′ = absurd (o .0 (sym (w′ .0) ∙ w .0 .0))
-way-to-end n p p′ a z (b ∷ r) (b′ ∷ r′) o o′ w w′ =
-    let q : b ≡ b′ = sym (w .0 .0) ∙ w′ .0 .0 in
-    let t : r ≡ r′ = way-to-end n p p′ b z r r′ (o .1) (o′ .1) (w .1) (subst (λ (x : ℕ). Way n p′ x r′ z) (sym q) (w′ .1)) in
-    λ i. q i ∷ t i
-
--- so a ring that has a slot has one row from there. Of links that are all zero this says nothing: they are the ring of
--- no slot and the ring of slot 0 alone
-pub row-only : {n p p′ : List ℕ} {h : ℕ} {row row′ : List ℕ} → Ring n p (h ∷ row) → Ring n p′ (h ∷ row′) → row ≡ row′
-row-only {n} {p} {p′} {h} {row} {row′} g g′ = way-to-end n p p′ h h row row′ (g .apart .0) (g′ .apart .0) (g .round) (g′ .round)
 
 -- ── the row determines the links ─────────────────────────────────────────────
 -- the place of a slot in a row
@@ -113,9 +97,3 @@ module _ {n p n′ p′ : List ℕ} where
         (λ (o : Out k row). g .free-prev k o ∙ sym (g′ .free-prev k o))
         (λ (t : Stands k row). prev-of (t .after ++ t .before) (turns (t .before) (k ∷ t .after) (rw (t .parts) at g)) (turns (t .before) (k ∷ t .after) (rw (t .parts) at g′)))
         (stands k row)
-
-    pub next-only : length n ≡ length n′ → n ≡ n′
-    next-only e = ext-getD 0 n n′ e (λ k _. next-at-only k)
-
-    pub prev-only : length n ≡ length n′ → p ≡ p′
-    prev-only e = ext-getD 0 p p′ (g .same ∙ e ∙ sym (g′ .same)) (λ k _. prev-at-only k)
