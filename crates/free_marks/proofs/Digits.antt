@@ -73,7 +73,7 @@ module _ (d x : ℕ) (fits : x < 2 ^ suc d) where
       by : (p : ℕ) → x < p * 2 → (p * 2 - 1 - x) % 2 ≡ 1 - x % 2
       by p h = omega arith
 
-half-lt : (d x : ℕ) → x < 2 ^ suc d → x / 2 < 2 ^ d
+pub half-lt : (d x : ℕ) → x < 2 ^ suc d → x / 2 < 2 ^ d
 half-lt d x h = div-lt-iff-lt-mul (zero-lt-suc 1) .1 (subst (λ (y : ℕ). x < y) (pow-suc 2 d) h)
 
 pub not-digit : (d x i : ℕ) → x < 2 ^ d → i < d → digit (2 ^ d - 1 - x) i ≡ 1 - digit x i

@@ -1,20 +1,16 @@
--- The unmarked slots are counted by words: each word's 1 bits are the marks of 64 slots.
-use mathlib.Core.Path.{_≡_, refl, sym, ap, _∙_, subst}
+-- The unmarked slots are counted by words: each word's 1 bits are the marks of 64 slots. Assumes nothing.
+use mathlib.Core.Path.{_≡_, refl, sym, ap, _∙_}
 use mathlib.Core.Bool.{Bool, true}
 use mathlib.Core.List.{List}
 use Prim.Native.Nat.{ℕ, zero, suc, _+_, _*_, _-_, _/_, _%_, _^_, _≤_, _<_, suc-le-suc}
-use native.Mathlib.Nat.{zero-lt-suc, div-lt-iff-lt-mul, pow-suc}
 use native.Mathlib.Omega.{arith}
 use lib.Count.{ones, ones-step}
 use lib.Dec.{eqb}
 use lib.ListN.{length, getD}
 use borrow.Author.Tests.{eq-eqb, ne-eqb}
 use Rattle.free_marks.specs.Marks.{bitAt}
-use Rattle.free_marks.proofs.Digits.{digit, digit-low, digit-up}
+use Rattle.free_marks.proofs.Digits.{digit, digit-low, digit-up, half-lt}
 use Rattle.soundness.specs.Checks.{Countable, tick, countBelow, unmarked}
-
-half-lt : (d x : ℕ) → x < 2 ^ suc d → x / 2 < 2 ^ d
-half-lt d x h = div-lt-iff-lt-mul (zero-lt-suc 1) .1 (subst (λ (y : ℕ). x < y) (pow-suc 2 d) h)
 
 ones-none : ones 0 ≡ 0
 unfolding ones
