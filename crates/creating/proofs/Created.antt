@@ -2,12 +2,12 @@
 -- the three answers of a creation exclude each other, so that creation is deterministic.
 use mathlib.Core.Path.{_≡_, refl, sym, ap, _∙_, subst}
 use mathlib.Core.List.{List, [], _∷_, _++_, append-nil}
-use mathlib.Core.Option.{Option, none, some, Option·some-injective}
+use mathlib.Core.Option.{Option, some, Option·some-injective}
 use Prim.Native.Nat.{ℕ, zero, suc, _+_, _*_, _-_, _/_, _%_, _^_, _≤_, _<_}
-use native.Mathlib.Nat.{one-mul, not-suc-le-zero}
+use native.Mathlib.Nat.{not-suc-le-zero}
 use native.Mathlib.Decide.{ℕ-discrete}
 use native.Mathlib.Omega.{arith}
-use lib.Pow.{pow-pos, ones-lt, shr-lt, shl-exact}
+use lib.Pow.{pow-pos, ones-lt, shr-lt}
 use lib.ListN.{length, getD, set, drop, replicate, length-map, length-append, length-replicate, length-set, getD-replicate, length-drop, List·getD-append, List·getD-eq-default}
 use lib.Seq.{getD-append-add}
 use borrow.Author.Fill.{fill-none, fill-more}
@@ -19,6 +19,7 @@ use Rattle.free_marks.specs.Marks.{bitAt}
 use Rattle.pool.specs.Slots.{blank, decode, entries}
 use Rattle.ring_links.proofs.Columns.{next-at, prev-at}
 use Rattle.free_marks.proofs.Digits.{digit, digit-of-none, not-digit}
+use Rattle.free_marks.proofs.Marking.{shifted}
 use Rattle.order.specs.Listed.{Listed}
 use Rattle.order.proofs.Ascending.{index-places}
 use Rattle.model.specs.Cache.{fresh}
@@ -118,10 +119,7 @@ module _ (size : ℕ) where
       go (yes e) = ap (λ (w : ℕ). digit (getD (freeMarks size) w 0) (k % 64)) e ∙ ap (λ (x : ℕ). digit x (k % 64)) word-last ∙ ones-above (size % 64) (k % 64) (omega arith)
       go (no ne) = ap (λ (x : ℕ). digit x (k % 64)) (List·getD-eq-default (freeMarks size) 0 (omega (arith, free-long))) ∙ digit-of-none (k % 64)
 
--- what the code shifts is a power of two
-shifted : (b : ℕ) → b < 64 → 1 * 2 ^ b % 2 ^ 64 ≡ 2 ^ b
-shifted b h = shl-exact 1 b 64 (omega arith) (omega arith) ∙ one-mul (2 ^ b)
-
+-- so 1 can be subtracted from what the code shifts
 pub shifted-some : (b : ℕ) → b < 64 → 1 ≤ 1 * 2 ^ b % 2 ^ 64
 shifted-some b h = rw (shifted b h) (pow-pos b)
 

@@ -30,7 +30,7 @@ module _ (mark : ℕ) (m : List ℕ) (s : ℕ) (inside : s / 64 < length m) (wor
   }
 
 -- the number that the code shifts is a power of two
-shifted : (b : ℕ) → b < 64 → 1 * 2 ^ b % 2 ^ 64 ≡ 2 ^ b
+pub shifted : (b : ℕ) → b < 64 → 1 * 2 ^ b % 2 ^ 64 ≡ 2 ^ b
 shifted b h = shl-exact 1 b 64 (omega arith) (omega arith) ∙ one-mul (2 ^ b)
 
 max-one : (x : ℕ) → max (x % 2) 1 ≡ 1
