@@ -4,10 +4,9 @@
 use mathlib.Core.Path.{_≡_, refl, sym, ap, _∙_, subst}
 use mathlib.Core.Bool.{true, false}
 use mathlib.Core.List.{List, [], _∷_}
-use mathlib.Core.Option.{Option, none, some, Option·some-injective}
+use mathlib.Core.Option.{none, some, Option·some-injective}
 use Prim.Native.Nat.{ℕ}
-use native.Mathlib.Omega.{arith}
-use lib.ListN.{length, getD}
+use lib.ListN.{getD}
 use borrow.Author.Tests.{eq-eqb}
 use Rattle.page.specs.declared.cache.PageCache.{PageCache}
 use Rattle.page.specs.declared.entry.PageCacheEntry.{PageCacheEntry}
@@ -19,7 +18,7 @@ use Rattle.model.specs.Rooms.{sweepOf, victimOut, evicted}
 use Rattle.model.specs.Row.{Page, Entry, Row, find, without}
 use Rattle.model.specs.Sweep.{Swept}
 use Rattle.model.proofs.Evictions.{goes}
-use Rattle.model.proofs.Evicts.{sweep-evicts, full-iff, full-unchanged}
+use Rattle.model.proofs.Evicts.{not-both, sweep-evicts, full-iff, full-unchanged}
 use Rattle.memory.specs.Memory.{Memory}
 use Rattle.memory.specs.Holds.{rowOf, Holds}
 use Rattle.memory.proofs.OnceKept.{holds-limited}
@@ -44,10 +43,6 @@ first-without e es = rw (eq-eqb (e .page .key) (e .page .key) refl, without)
 abbrev slotFirst : Row → ℕ
 slotFirst [] = 0
 slotFirst (e ∷ es) = e .page .slot
-
--- a sweep takes no page, or one
-not-both : {victim : Option Page} {p : Page} → victim ≡ none → victim ≡ some p → ⊥
-not-both q r = let clash : _≡_ {A = ℕ} 0 1 = cc in omega arith
 
 -- ── after the sweep ──────────────────────────────────────────────────────────
 module _ {m : Memory} {head : PageCache} {c : Cache} (H : Holds m head c) {slots′ : List ℕ} {r : code.Swept}

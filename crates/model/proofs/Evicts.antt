@@ -18,7 +18,7 @@ use Rattle.model.proofs.Rounds.{idle-rounds, victim-found}
 use Rattle.model.proofs.Choice.{Chosen, choose}
 
 -- a sweep takes no page, or one
-not-both : {victim : Option Page} {p : Page} → victim ≡ none → victim ≡ some p → ⊥
+pub not-both : {victim : Option Page} {p : Page} → victim ≡ none → victim ≡ some p → ⊥
 not-both q r = let clash : _≡_ {A = ℕ} 0 1 = cc in omega arith
 
 module _ (may : Page → Bool) where
