@@ -1,6 +1,5 @@
 -- The counts stay below the offset, and that below the longest file's: one frame more can be counted.
 use mathlib.Core.Path.{_≡_, refl, sym, ap, subst}
-use mathlib.Core.Bool.{Bool, true, false, cond}
 use Prim.Native.Nat.{ℕ, _+_, _-_, _≤_, _<_}
 use native.Mathlib.Omega.{arith}
 use lib.Dec.{eqb}
@@ -9,6 +8,7 @@ use Rattle.wal_frame.specs.Frame.{frameLength}
 use Rattle.wal_frame.specs.declared.frame.Frame.{Frame}
 use Rattle.wal_scanner.specs.Scan.{startOf, counted, Countable}
 use Rattle.wal_scanner.specs.declared.scanning.Summary.{Summary}
+use Rattle.wal_scanner.proofs.Turns.{commits-few}
 
 -- no file is longer
 abbrev pub longest : ℕ
@@ -25,10 +25,6 @@ pub going-none : {h : Header} {s : Summary} {at : ℕ} → s ≡ startOf h → a
 going-none {h} {s} {at} is room =
     subst (λ (x : Summary). Going h x at) (sym is)
     (record { own = refl; few = omega arith; fewer = omega arith; room = room })
-
-commits-few : (plain : Bool) (commits frames : ℕ) → commits ≤ frames → cond plain commits (commits + 1) ≤ frames + 1
-commits-few true commits frames few = omega arith
-commits-few false commits frames few = omega arith
 
 module _ {h : Header} {s : Summary} {at : ℕ} (going : Going h s at) where
   pub countable : h .«page_size» ≤ 65536 → s .end < longest → Countable s

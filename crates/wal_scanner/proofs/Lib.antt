@@ -1,2 +1,2 @@
 pub mod CutLog
-mod Turns
+pub mod Turns

@@ -116,7 +116,8 @@ reading-none {b} {h} {s} is long =
       rest = refl;
     }
 
-commits-few : (t : Bool) (commits frames : ℕ) → commits ≤ frames → cond t commits (commits + 1) ≤ frames + 1
+-- at most every frame commits: one frame more, which commits or is a plain one
+pub commits-few : (plain : Bool) (commits frames : ℕ) → commits ≤ frames → cond plain commits (commits + 1) ≤ frames + 1
 commits-few true commits frames few = omega arith
 commits-few false commits frames few = omega arith
 
