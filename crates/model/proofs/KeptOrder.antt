@@ -10,7 +10,7 @@ use lib.ListN.{length}
 use borrow.Author.Tests.{ltb-true, ltb-false}
 use Rattle.model.specs.Row.{Page, Entry, Row, Each, sortIn, byKey, those}
 use Rattle.model.specs.Limits.{Apart}
-use Rattle.model.proofs.Rows.{each-weaken}
+use Rattle.model.proofs.Rows.{each-weaken, each-apply}
 use Rattle.model.proofs.Numbers.{OtherKey}
 use Rattle.model.proofs.KeptCases.{either}
 
@@ -97,10 +97,6 @@ first-lowest x xs a = (omega arith, each-weaken (Above (x .page .key)) (λ z. x 
 first-alone : (x : Entry) (xs : Row) → Ascending (x ∷ xs) → Each (λ z. x .page .key ≡ z .page .key → x ≡ z) (x ∷ xs)
 first-alone x xs a =
     (λ _. refl, each-weaken (Above (x .page .key)) (λ z. x .page .key ≡ z .page .key → x ≡ z) (λ z l q. absurd (omega arith)) xs (a .0))
-
-each-apply : (P Q : Entry → Type 0) (row : Row) → Each (λ e. Q e → P e) row → Each Q row → Each P row
-each-apply P Q [] f t = tt
-each-apply P Q (e ∷ es) f t = (f .0 (t .0), each-apply P Q es (f .1) (t .1))
 
 -- so the others are the same where the first are
 others-there : (x : Entry) (xs : Row) (y : Entry) (ys : Row) → Ascending (y ∷ ys) → x .page .key ≡ y .page .key

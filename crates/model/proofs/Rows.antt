@@ -23,6 +23,11 @@ pub each-weaken : (P Q : Entry → Type 0) → ((e : Entry) → P e → Q e) →
 each-weaken P Q w [] t = tt
 each-weaken P Q w (e ∷ es) t = (w e (t .0), each-weaken P Q w es (t .1))
 
+-- what follows from Q at each
+pub each-apply : (P Q : Entry → Type 0) (es : Row) → Each (λ e. Q e → P e) es → Each Q es → Each P es
+each-apply P Q [] f t = tt
+each-apply P Q (e ∷ es) f t = (f .0 (t .0), each-apply P Q es (f .1) (t .1))
+
 -- a fact of each after f was done to all
 pub each-map : (P Q : Entry → Type 0) (f : Entry → Entry) → ((e : Entry) → P e → Q (f e)) → (es : Row) → Each P es → Each Q (map f es)
 each-map P Q f w [] t = tt

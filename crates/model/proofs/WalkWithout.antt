@@ -11,7 +11,7 @@ use Rattle.model.specs.Row.{Entry, Row, Each, find, without, byKey}
 use Rattle.model.proofs.ByKey.{Stands, find-stands, stands-without}
 use Rattle.model.proofs.KeptOrder.{Above, Ascending, by-key-each, each-by-key, by-key-ascending, by-key-once}
 use Rattle.model.proofs.Numbers.{OtherKey, each-place, apart-others, apart-remove}
-use Rattle.model.proofs.Rows.{each-middle, each-remove, each-weaken}
+use Rattle.model.proofs.Rows.{each-middle, each-remove, each-weaken, each-apply}
 
 -- ── an ascending row ─────────────────────────────────────────────────────────
 ascending-remove : (xs : Row) (e : Entry) (ys : Row) → Ascending (xs ++ e ∷ ys) → Ascending (xs ++ ys)
@@ -25,11 +25,7 @@ ascending-others (x ∷ xs) e ys a =
     (λ q. omega arith, ascending-others xs e ys (a .1))
 
 -- ── the others of a row ──────────────────────────────────────────────────────
-each-apply : (P Q : Entry → Type 0) (row : Row) → Each (λ z. Q z → P z) row → Each Q row → Each P row
-each-apply P Q [] f t = tt
-each-apply P Q (z ∷ zs) f t = (f .0 (t .0), each-apply P Q zs (f .1) (t .1))
-
--- what holds of each entry but e holds of them in another order too
+-- what is so of each entry but e stays so where the entries stand otherwise
 others-there : (xs : Row) (e : Entry) (ys xs′ ys′ : Row) → ((P : Entry → Type 0) → Each P (xs ++ e ∷ ys) → Each P (xs′ ++ e ∷ ys′))
     → Each (OtherKey (e .page .key)) (xs′ ++ ys′) → (P : Entry → Type 0) → Each P (xs ++ ys) → Each P (xs′ ++ ys′)
 others-there xs e ys xs′ ys′ there others P t =
