@@ -42,7 +42,7 @@ blank-of e q next prev = λ i. record {
   prev = record { 0 = prev i };
 }
 
-blank-spare : blank .spare ≡ 0
+pub blank-spare : blank .spare ≡ 0
 unfolding blank
 blank-spare = refl
 

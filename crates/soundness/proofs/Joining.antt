@@ -34,6 +34,7 @@ use Rattle.model.specs.Row.{Each}
 use Rattle.memory.specs.Memory.{Memory}
 use Rattle.memory.specs.Holds.{Lengths, Seated, rowOf, Marked, Fine, Holds, Sound}
 use Rattle.memory.proofs.Rows.{each-seat, seat-each}
+use Rattle.memory.proofs.Seats.{blank-spare}
 use Rattle.memory.proofs.Standing.{holds-size}
 use Rattle.soundness.specs.Checks.{Agreeing, InRange, MarksFit, unmarked, Counted, Readable, Taken, Walked, Orderable, Lists, Filled, AllProper, Checked}
 use Rattle.soundness.proofs.Passes.{lt-or-le}
@@ -65,10 +66,6 @@ blank-next = refl
 blank-prev : blank .prev .0 ≡ 0
 unfolding blank
 blank-prev = refl
-
-blank-spare : blank .spare ≡ 0
-unfolding blank
-blank-spare = refl
 
 -- a number that is 0 or 1, as a switch
 switched : (n : ℕ) → n ≤ 1 → n ≡ cond (eqb n 1) 1 0
