@@ -21,6 +21,7 @@ use Rattle.model.specs.Rules.{deleting, deleteFound, place, onFull, admi
 use Rattle.model.specs.Spill.{needsSpill, selection, selected, onSpill}
 use Rattle.model.specs.Step.{act, tested, step, run, runTouches, runFalls}
 use Rattle.model.proofs.Totals.{sweep-total, total-change, total-without, total-enter}
+use Rattle.model.proofs.KeptCases.{either}
 
 -- of an outcome from a row: the uses that fell and those left are no more than the touches and the uses that were there
 record Balanced (row : Row) (o : Outcome) : Type 0 where
@@ -47,9 +48,8 @@ after-evictions : {row : Row} {r : Room} {o : Outcome} → Paid row r → Balanc
 after-evictions p h = record { balance = omega arith }
 
 -- a test, both ways
-either : {row : Row} (b : Bool) {o p : Outcome} → Balanced row o → Balanced row p → Balanced row (elim b [ true ↦ o | false ↦ p ])
-either true h k = h
-either false h k = k
+both-ways : {row : Row} (b : Bool) {o p : Outcome} → Balanced row o → Balanced row p → Balanced row (elim b [ true ↦ o | false ↦ p ])
+both-ways {row} b h k = either (Balanced row) b (λ _. h) (λ _. k)
 
 -- ── rule 5: evictions ────────────────────────────────────────────────────────
 sweeping-paid : (c : Cache) (v : Option Page) {rest : Room} → Paid (evicted c .row) rest → Paid (c .row) (sweeping c v rest)
@@ -111,16 +111,16 @@ module _ (key handle : ℕ) (state : PageRecord) where
 
   full-balanced : (how : Insertion) (c : Cache) → Balanced (c .row) (onFull key handle state how c)
   full-balanced plain c = still
-  full-balanced forced c = either (ltb (heldIn c) (c .size)) (place-balanced c) still
-  full-balanced upsert c = either (ltb (heldIn c) (c .size)) (place-balanced c) still
+  full-balanced forced c = both-ways (ltb (heldIn c) (c .size)) (place-balanced c) still
+  full-balanced upsert c = both-ways (ltb (heldIn c) (c .size)) (place-balanced c) still
 
   admit-balanced : (how : Insertion) (c : Cache) → Balanced (c .row) (admit key handle state how c)
   admit-balanced how c =
       let r : Room = makeRoom c in
-      after-evictions (room-paid c) (either (r .full) (full-balanced how (r .cache)) (place-balanced (r .cache)))
+      after-evictions (room-paid c) (both-ways (r .full) (full-balanced how (r .cache)) (place-balanced (r .cache)))
 
   exists-balanced : (p : Page) (c : Cache) → Balanced (c .row) (keyExists key handle state p c)
-  exists-balanced p c = either (eqb (p .handle) handle) (touch-pays (touch-adds key (c .row))) still
+  exists-balanced p c = both-ways (eqb (p .handle) handle) (touch-pays (touch-adds key (c .row))) still
 
   present-balanced : (how : Insertion) (p : Page) (c : Cache) → Balanced (c .row) (present key handle state how p c)
   present-balanced plain p c = exists-balanced p c
@@ -135,23 +135,23 @@ module _ (key handle : ℕ) (state : PageRecord) where
   insert-balanced how (some e) c =
       let p : Page = e .page in
       let deleted = deleting-balanced p (admit key handle state how) c (admit-balanced how (leave p c)) in
-      either (stale (p .state)) deleted (present-balanced how p c)
+      both-ways (stale (p .state)) deleted (present-balanced how p c)
 
 -- ── rule 9: lookup and peek ──────────────────────────────────────────────────
 lookup-balanced : (key : ℕ) (found : Option Entry) (c : Cache) → Balanced (c .row) (lookupFound key found c)
 lookup-balanced key none c = still
 lookup-balanced key (some e) c =
-    either (stale (e .page .state)) (deleting-balanced (e .page) (answer 4 0) c still) (hit-balanced key (e .page) c)
+    both-ways (stale (e .page .state)) (deleting-balanced (e .page) (answer 4 0) c still) (hit-balanced key (e .page) c)
 
 peek-balanced : (key : ℕ) (asked : Bool) (found : Option Entry) (c : Cache) → Balanced (c .row) (peekFound key asked found c)
 peek-balanced key asked none c = still
-peek-balanced key asked (some e) c = either asked (hit-balanced key (e .page) c) still
+peek-balanced key asked (some e) c = both-ways asked (hit-balanced key (e .page) c) still
 
 -- ── rule 10: resize ──────────────────────────────────────────────────────────
 resize-balanced : (capacity : ℕ) (c : Cache) → Balanced (c .row) (onResize capacity c)
 resize-balanced capacity c =
-    let evicts = after-evictions (evictions-paid (heldIn c) capacity c) (either (evictTo capacity c .full) still still) in
-    either (eqb capacity (c .capacity)) still evicts
+    let evicts = after-evictions (evictions-paid (heldIn c) capacity c) (both-ways (evictTo capacity c .full) still still) in
+    both-ways (eqb capacity (c .capacity)) still evicts
 
 -- ── rule 11: the sweeping deletions ──────────────────────────────────────────
 delete-each-balanced : (ps : List Page) (c : Cache) → Balanced (c .row) (deleteEach ps c)
@@ -174,7 +174,7 @@ clear-balanced false c = clear-unless-balanced (those (λ p. dirty (p .state)) (
 -- ── rule 12: notifications and the record write ──────────────────────────────
 notify-balanced : (by : ℕ → ℕ) (found : Option Entry) (c : Cache) → Balanced (c .row) (notified by found c)
 notify-balanced by none c = still
-notify-balanced by (some e) c = either (pageOne (e .page .key)) still still
+notify-balanced by (some e) c = both-ways (pageOne (e .page .key)) still still
 
 write-balanced : (key : ℕ) (state : PageRecord) (found : Option Entry) (c : Cache) → Balanced (c .row) (writeFound key state found c)
 write-balanced key state none c = still
@@ -186,14 +186,14 @@ selected-balanced [] c = still
 selected-balanced (p ∷ ps) c = record { balance = omega arith }
 
 spill-balanced : (most : ℕ) (c : Cache) → Balanced (c .row) (onSpill most c)
-spill-balanced most c = either (needsSpill c) (selected-balanced (selection most c) c) still
+spill-balanced most c = both-ways (needsSpill c) (selected-balanced (selection most c) c) still
 
 -- ── one eviction, asked for ──────────────────────────────────────────────────
 evict-balanced : (row : Row) (c : Cache) → Balanced (c .row) (evictFrom row c)
 evict-balanced [] c = still
 evict-balanced (e ∷ es) c =
     let r : Room = sweeping c (sweepOf c .victim) (enough (evicted c)) in
-    after-evictions (sweeping-paid c (sweepOf c .victim) (record { balance = omega arith })) (either (r .full) still still)
+    after-evictions (sweeping-paid c (sweepOf c .victim) (record { balance = omega arith })) (both-ways (r .full) still still)
 
 -- ── the theorems ─────────────────────────────────────────────────────────────
 act-balanced : (call : Call) (c : Cache) → Balanced (c .row) (act call c)
