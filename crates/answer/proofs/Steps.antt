@@ -8,7 +8,7 @@ use mathlib.Core.Logic.{_≢_}
 use mathlib.Core.Option.{some}
 use Prim.Native.Nat.{ℕ, suc, _+_, _≤_, _<_}
 use native.Mathlib.Omega.{arith}
-use lib.ListN.{length, getD, take, drop, set, length-append, length-map}
+use lib.ListN.{length, take, drop, set, length-append, length-map}
 use lib.Seq.{drop-cons, drop-drop, take-append-seam, drop-append-add, set-append-seam}
 use borrow.Author.Tests.{lt-ltb, le-ltb}
 use Rattle.page.specs.Record.{deletable}
@@ -22,6 +22,7 @@ use Rattle.model.specs.Row.{Page}
 use Rattle.model.specs.Rules.{deleting}
 use Rattle.model.specs.Step.{act, step}
 use Rattle.model.specs.Tests.{asks, tooLarge, badRecord, shortList, handleElsewhere, refusal}
+use Rattle.model.proofs.KeptTests.{Passes}
 use Rattle.memory.specs.Memory.{Memory}
 use Rattle.memory.specs.Holds.{Holds}
 use Rattle.answer.specs.Answer.{codeOf, valueOf, refusedAs, plainly, Follows, Wrote, Comes}
@@ -29,15 +30,8 @@ use Rattle.answer.specs.declared.answer.Answer.{Answer}
 use Rattle.answer.specs.declared.answered.Answered.{Answered}
 
 -- ── the tests before the rules ───────────────────────────────────────────────
--- the call fails no test: `refl` answers for a test that the call doesn't have
-pub record Passes (call : Call) (c : Cache) : Type 0 where
-  pub capacity : tooLarge (asks call .capacity) c ≡ false
-  pub state : badRecord (asks call .state) ≡ false
-  pub places : shortList (asks call .places) c ≡ false
-  pub naming : handleElsewhere (asks call .naming) c ≡ false
-
 module _ (call : Call) {c : Cache} where
-  -- then it does what its rule says
+  -- a call that fails no test does what its rule says
   pub step-acts : Passes call c → step call c ≡ act call c
   unfolding step refusal
   step-acts p = rw (p .capacity, p .state, p .places, p .naming)

@@ -177,7 +177,7 @@ unfolding act
 act-leaves (create capacity) c k t = leaves-done c (answer 0 0 (fresh (c .size) capacity)) (inl refl) (omega arith)
     (λ _. fresh-kept (c .size) capacity (ltb-false (c .size) capacity (t .capacity)))
 act-leaves (insert how key handle state places) c k t =
-    insert-leaves key handle state (ltb-false 31 (state .flags) (t .flags)) how c k (t .elsewhere)
+    insert-leaves key handle state (ltb-false 31 (state .flags) (t .state)) how c k (t .naming)
 act-leaves (lookup key places) c k t = lookup-leaves c k key (find key (c .row)) refl
 act-leaves (peek key asked) c k t = peek-leaves c k key asked (find key (c .row)) refl
 act-leaves (delete key places) c k t = delete-found-leaves c k key (find key (c .row)) refl
@@ -188,7 +188,7 @@ act-leaves (clear dirty-too places) c k t = clear-leaves c k dirty-too
 act-leaves (notify-dirty key) c k t = notified-leaves c k down (omega (arith, k .estimate)) (find key (c .row))
 act-leaves (notify-spilled key) c k t = notified-leaves c k up (omega arith) (find key (c .row))
 act-leaves (write key state) c k t =
-    write-leaves c k key state (λ fit. fit) (ltb-false 31 (state .flags) (t .flags)) (find key (c .row)) refl
+    write-leaves c k key state (λ fit. fit) (ltb-false 31 (state .flags) (t .state)) (find key (c .row)) refl
 act-leaves (spill most places) c k t = spill-leaves c k most
 act-leaves (evict-one places) c k t = evict-one-leaves c k (c .row)
 act-leaves (switch on) c k t = leaves-done c (answer 0 0 (withSpill on c)) (inl refl) (omega arith) (λ _. switch-kept on c k)

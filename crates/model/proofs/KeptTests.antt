@@ -12,12 +12,12 @@ use Rattle.model.specs.Call.{Call}
 use Rattle.model.specs.Tests.{asks, tooLarge, badRecord, shortList, underOther, handleElsewhere, refusal}
 use Rattle.model.proofs.KeptCases.{either}
 
--- none of the four tests refuses
+-- none of the four tests refuses: `refl` answers for a test that the call doesn't have
 pub record Passes (call : Call) (c : Cache) : Type 0 where
   pub capacity : tooLarge (asks call .capacity) c ≡ false
-  pub flags : badRecord (asks call .state) ≡ false
+  pub state : badRecord (asks call .state) ≡ false
   pub places : shortList (asks call .places) c ≡ false
-  pub elsewhere : handleElsewhere (asks call .naming) c ≡ false
+  pub naming : handleElsewhere (asks call .naming) c ≡ false
 
 all-four : (a b c d : Bool) → _≡_ {A = ℕ} (cond a 15 (cond b 2 (cond c 3 (cond d 12 0)))) 0
     → (a ≡ false) × (b ≡ false) × (c ≡ false) × (d ≡ false)
@@ -35,7 +35,7 @@ passes call c h =
     let short : Bool = shortList (asks call .places) c in
     let elsewhere : Bool = handleElsewhere (asks call .naming) c in
     let all = all-four large bad short elsewhere h in
-    record { capacity = all .0; flags = all .1; places = all .2; elsewhere = all .3 }
+    record { capacity = all .0; state = all .1; places = all .2; naming = all .3 }
 
 -- ── code 12 ──────────────────────────────────────────────────────────────────
 implied : (a b : Bool) → a && not b ≡ false → a ≡ true → b ≡ true
