@@ -1,7 +1,7 @@
 -- What a search of an index says of the row. The index lists the seats, a seat's name is its entry's, and no two seats share
 -- one: so a name that is found is the entry's, and one that isn't found is no entry's.
 use mathlib.Core.Path.{_≡_, refl, sym, ap, _∙_, subst}
-use mathlib.Core.Bool.{Bool, true, false, not, _&&_, true≢false}
+use mathlib.Core.Bool.{Bool, true, false, not, _&&_}
 use mathlib.Core.List.{List, [], _∷_}
 use mathlib.Core.Logic.{_≢_}
 use mathlib.Core.Option.{none, some}
@@ -23,6 +23,9 @@ use Rattle.model.specs.Cache.{Cache}
 use Rattle.model.specs.Row.{Entry, Row, Each, find}
 use Rattle.model.specs.Tests.{underOther}
 use Rattle.model.proofs.ByKey.{none-find}
+use Rattle.model.proofs.KeptTests.{Under}
+use Rattle.model.proofs.KeptTests as tests
+use Rattle.model.proofs.Rows.{each-weaken}
 use Rattle.memory.specs.Memory.{Memory}
 use Rattle.memory.specs.Holds.{seen, rowOf, Holds}
 use Rattle.memory.proofs.Rows.{each-seat, seat-each}
@@ -45,21 +48,8 @@ module _ (key handle : ℕ) where
       go (yes q) = rw (eq-eqb (x .page .handle) handle q, eq-eqb (x .page .key) key (fits q))
       go (no other) = rw (ne-eqb (x .page .handle) handle other)
 
-  fits-not : (x : Entry) → misfit x ≡ false → Fits x
-  fits-not x h q = go (ℕ-discrete (x .page .key) key)
-    where
-      go : Dec (x .page .key ≡ key) → x .page .key ≡ key
-      go (yes same) = same
-      go (no other) = absurd (true≢false (rw (eq-eqb (x .page .handle) handle q, ne-eqb (x .page .key) key other) at h))
-
   pub under-each : (row : Row) → underOther key handle row ≡ false → Each Fits row
-  unfolding underOther
-  under-each [] h = tt
-  under-each (x ∷ row) h = go (misfit x) refl (under-each row)
-    where
-      go : (b : Bool) → misfit x ≡ b → (underOther key handle row ≡ false → Each Fits row) → Each Fits (x ∷ row)
-      go true q rest = absurd (true≢false (rw (q, underOther) at h))
-      go false q rest = (fits-not x q, rest (rw (q, underOther) at h))
+  under-each row h = each-weaken (Under key handle) Fits (λ x under same. sym (under (sym same))) row (tests.each-under key handle row h)
 
   pub each-under : (row : Row) → Each Fits row → underOther key handle row ≡ false
   unfolding underOther
