@@ -1,5 +1,5 @@
 -- The estimate after a page came, went or was replaced (01, rule 12): the model's rule, for the key and the record of the page.
--- Assumes nothing.
+--
 use Prim.Native.Nat.{ℕ}
 use Rattle.page.specs.declared.record.PageRecord.{PageRecord}
 use Rattle.model.specs.Cache.{countIn, countOut, countOver}

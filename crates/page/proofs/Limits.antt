@@ -1,4 +1,4 @@
--- What follows from the definitions alone: 01's examples of the threshold. Assumes nothing.
+-- What follows from the definitions alone: 01's examples of the threshold.
 use mathlib.Core.List.{[], _∷_, map}
 use mathlib.Core.Path.{_≡_, refl}
 use Rattle.page.specs.Cache.{threshold}

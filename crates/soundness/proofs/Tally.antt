@@ -1,4 +1,4 @@
--- The unmarked slots are counted by words: each word's 1 bits are the marks of 64 slots. Assumes nothing.
+-- The unmarked slots are counted by words: each word's 1 bits are the marks of 64 slots.
 use mathlib.Core.Path.{_≡_, refl, sym, ap, _∙_}
 use mathlib.Core.Bool.{Bool, true}
 use mathlib.Core.List.{List}
