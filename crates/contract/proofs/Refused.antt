@@ -13,6 +13,7 @@ use Rattle.model.specs.Limits.{Kept}
 use Rattle.model.specs.Step.{step}
 use Rattle.model.specs.Tests.{refusal}
 use Rattle.model.proofs.Kept.{refused-unchanged, unlisted-unchanged, high-code-unchanged}
+use Rattle.model.proofs.KeptInsertion.{no-handles}
 use Rattle.model.proofs.KeptLeaves.{Refusal}
 use Rattle.memory.specs.Holds.{Holds, Sound}
 use Rattle.memory.proofs.Once.{holds-memory}
@@ -20,11 +21,6 @@ use Rattle.memory.proofs.OnceKept.{holds-kept}
 use Rattle.answer.specs.Answer.{Comes, codeOf}
 use Rattle.answer.specs.declared.answered.Answered.{Answered}
 use Rattle.contract.specs.Called.{State, Does, refuses, acts, Called, Unaltered}
-
--- a list with no number in it
-none-listed : (handles : List ℕ) → length handles ≡ 0 → handles ≡ []
-none-listed [] q = refl
-none-listed (h ∷ hs) q = absurd (omega arith)
 
 module _ {call : Call} {before after : State} {head : PageCache} {r : Answered} (x : Called call before head after r) (c : Cache)
     (h : Holds (before .memory) head c) where
@@ -58,7 +54,7 @@ module _ {call : Call} {before after : State} {head : PageCache} {r : Answered} 
   pub unlisted-unaltered : codeOf (r .answer) ≢ 0 → codeOf (r .answer) ≢ 9 → r .listed ≡ 0 → Unaltered before head after r
   unlisted-unaltered not-done not-touched unlisted =
       let f = acted .follows in
-      let none : step call c .listed ≡ [] = none-listed (step call c .listed) (sym (f .listed) ∙ unlisted) in
+      let none : step call c .listed ≡ [] = no-handles (step call c .listed) (omega (arith, f .listed, unlisted)) in
       let no : Refusal (step call c .code) = record { not-done = λ q. not-done (f .code ∙ q); not-touched = λ q. not-touched (f .code ∙ q) } in
       unaltered (unlisted-unchanged call c called-kept no none) none
 

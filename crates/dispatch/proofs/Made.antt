@@ -13,7 +13,7 @@ use Rattle.model.specs.Step.{act, step}
 use Rattle.memory.specs.Memory.{Memory}
 use Rattle.memory.specs.Holds.{Holds}
 use Rattle.soundness.proofs.Joining.{holds-agreeing}
-use Rattle.creating.specs.Creation.{done, too-large, bad-lengths, Creates}
+use Rattle.creating.specs.Creation.{CreatedWell, done, too-large, bad-lengths, Creates}
 use Rattle.creating.specs.Creation as creation
 use Rattle.creating.specs.declared.creating.Created.{Created}
 use Rattle.creating.specs.declared.creating.Created.the-variants as created
@@ -66,34 +66,29 @@ module _ {capacity : ℕ} {before after : State} {head : PageCache} {r : Answere
           comes-as (create-above capacity c (omega (arith, size, w .above))) (plain-comes TooLarge holds (before .list))
       go created.BadLengths (bad-lengths w) = absurd (w .lengths (holds-agreeing h))
 
-  -- on any memory: what is made is what the model makes of any cache with as many slots
-  pub creation-step : codeOf (r .answer) ≡ 0 → (d : Cache) → d .size ≡ length (before .memory .by-key)
-      → (step (create capacity) d .code ≡ 0) × Holds (after .memory) (r .head) (step (create capacity) d .cache)
-  creation-step told d size = go (x .makes .made) (x .makes .creates) (x .makes .answer)
+  -- done, on any memory: it is that of a new cache, whose head comes back
+  made-well : codeOf (r .answer) ≡ 0 → CreatedWell (before .memory) capacity (r .head) (after .memory)
+  made-well told = go (x .makes .made) (x .makes .creates) (x .makes .answer)
     where
       go : (made : Created) → Creates (before .memory) capacity made (after .memory) → r ≡ answeredAs made head
-          → (step (create capacity) d .code ≡ 0) × Holds (after .memory) (r .head) (step (create capacity) d .cache)
+          → CreatedWell (before .memory) capacity (r .head) (after .memory)
       go (created.Done new) (done w) q =
-          let within : step (create capacity) d ≡ answer 0 0 (fresh (d .size) capacity) = create-within capacity d (omega (arith, size, w .within)) in
-          let new-head : new ≡ r .head = sym (ap (λ (s : Answered). s .head) q) in
-          let held : Holds (after .memory) new (fresh (d .size) capacity) =
-          subst (λ (n : ℕ). Holds (after .memory) new (fresh n capacity)) (sym size) (w .holds) in
-          let there : Holds (after .memory) (r .head) (fresh (d .size) capacity) =
-          subst (λ (h : PageCache). Holds (after .memory) h (fresh (d .size) capacity)) new-head held in (
-            ap (λ (o : Outcome). o .code) within,
-            subst (λ (e : Cache). Holds (after .memory) (r .head) e) (sym (ap (λ (o : Outcome). o .cache) within)) there,
-          )
+          subst (λ (h : PageCache). CreatedWell (before .memory) capacity h (after .memory)) (sym (ap (λ (s : Answered). s .head) q)) w
       go created.TooLarge (too-large w) q = absurd (omega (arith, told, ap (λ (s : Answered). codeOf (s .answer)) q))
       go created.BadLengths (bad-lengths w) q = absurd (omega (arith, told, ap (λ (s : Answered). codeOf (s .answer)) q))
 
+  -- what is made is what the model makes of any cache with as many slots
+  pub creation-step : codeOf (r .answer) ≡ 0 → (d : Cache) → d .size ≡ length (before .memory .by-key)
+      → (step (create capacity) d .code ≡ 0) × Holds (after .memory) (r .head) (step (create capacity) d .cache)
+  creation-step told d size =
+      let w = made-well told in
+      let within : step (create capacity) d ≡ answer 0 0 (fresh (d .size) capacity) = create-within capacity d (omega (arith, size, w .within)) in
+      let holds : Holds (after .memory) (r .head) (fresh (d .size) capacity) =
+      subst (λ (n : ℕ). Holds (after .memory) (r .head) (fresh n capacity)) (sym size) (w .holds) in (
+        ap (λ (o : Outcome). o .code) within,
+        subst (λ (e : Cache). Holds (after .memory) (r .head) e) (sym (ap (λ (o : Outcome). o .cache) within)) holds,
+      )
+
   -- and a history of calls begins with it
   pub creation-history : codeOf (r .answer) ≡ 0 → History (length (before .memory .by-key)) capacity [] (after .memory) (r .head)
-  creation-history told = go (x .makes .made) (x .makes .creates) (x .makes .answer)
-    where
-      go : (made : Created) → Creates (before .memory) capacity made (after .memory) → r ≡ answeredAs made head
-          → History (length (before .memory .by-key)) capacity [] (after .memory) (r .head)
-      go (created.Done new) (done w) q =
-          history.created (subst (λ (h : PageCache). Holds (after .memory) h (fresh (length (before .memory .by-key)) capacity))
-          (sym (ap (λ (s : Answered). s .head) q)) (w .holds))
-      go created.TooLarge (too-large w) q = absurd (omega (arith, told, ap (λ (s : Answered). codeOf (s .answer)) q))
-      go created.BadLengths (bad-lengths w) q = absurd (omega (arith, told, ap (λ (s : Answered). codeOf (s .answer)) q))
+  creation-history told = history.created (made-well told .holds)

@@ -32,7 +32,7 @@ use Rattle.model.proofs.KeptPages.{count-in-range, leave-kept, without-
 use Rattle.model.proofs.KeptTests.{Under, each-under}
 use Rattle.model.proofs.KeptLeaves.{Unchanged, Leaves, leaves-same, leaves-done, leaves-listing, leaves-following}
 
-no-handles : (handles : List ℕ) → length handles ≤ 0 → handles ≡ []
+pub no-handles : (handles : List ℕ) → length handles ≤ 0 → handles ≡ []
 no-handles [] h = refl
 no-handles (x ∷ xs) h = absurd (omega arith)
 
