@@ -6,6 +6,13 @@ use borrow.Author.Needs.{needs}
 use Rattle.pool.proofs.slots.store.Statement.{statement}
 use Rattle.pool.proofs.slots.store.Tie as tie
 
+-- from the word of counts back to the word of links, and from there to the start
+abbrev links-of : tie.After-struct-known11 → tie.After-struct-known5
+links-of c = c .before .before .before .before .before .before
+
+abbrev start-of : tie.After-struct-known5 → tie.Start
+start-of c = c .before .before .before .before .before .before
+
 cast-at : tie.Need-cast-at
 cast-at c = search needs
 
@@ -49,7 +56,9 @@ mul-slots-4 : tie.Need-mul-slots-4
 mul-slots-4 c = search needs
 
 slice-write-slots-2 : tie.Need-slice-write-slots-2
-slice-write-slots-2 c = simp length-set (omega (arith, entries-length (c .before .before .before .before .before .before .args .slots .now), (c .before .before .before .before .before .before)))
+slice-write-slots-2 c =
+    let start = start-of c in
+    simp length-set (omega (arith, entries-length (start .args .slots .now), start))
 
 cast-slots-5 : tie.Need-cast-slots-5
 cast-slots-5 c = search needs
@@ -100,28 +109,42 @@ add-slots-8 : tie.Need-add-slots-8
 add-slots-8 c = search needs
 
 add-slots-9 : tie.Need-add-slots-9
-add-slots-9 c = omega (arith, entries-length (c .before .before .before .before .before .before .before .before .before .before .before .before .args .slots .now), (c .before .before .before .before .before .before .before .before .before .before .before .before))
+add-slots-9 c =
+    let start = start-of (links-of c) in
+    omega (arith, entries-length (start .args .slots .now), start)
 
 mul-slots-10 : tie.Need-mul-slots-10
-mul-slots-10 c = omega (arith, entries-length (c .before .before .before .before .before .before .before .before .before .before .before .before .args .slots .now), (c .before .before .before .before .before .before .before .before .before .before .before .before))
+mul-slots-10 c =
+    let start = start-of (links-of c) in
+    omega (arith, entries-length (start .args .slots .now), start)
 
 slice-write-slots-3 : tie.Need-slice-write-slots-3
-slice-write-slots-3 c = simp length-set (omega (arith, entries-length (c .before .before .before .before .before .before .before .before .before .before .before .before .args .slots .now), (c .before .before .before .before .before .before .before .before .before .before .before .before)))
+slice-write-slots-3 c =
+    let start = start-of (links-of c) in
+    simp length-set (omega (arith, entries-length (start .args .slots .now), start))
 
 add-slots-10 : tie.Need-add-slots-10
-add-slots-10 c = omega (arith, entries-length (c .before .before .before .before .before .before .before .before .before .before .before .before .args .slots .now), (c .before .before .before .before .before .before .before .before .before .before .before .before))
+add-slots-10 c =
+    let start = start-of (links-of c) in
+    omega (arith, entries-length (start .args .slots .now), start)
 
 mul-slots-11 : tie.Need-mul-slots-11
-mul-slots-11 c = omega (arith, entries-length (c .before .before .before .before .before .before .before .before .before .before .before .before .args .slots .now), (c .before .before .before .before .before .before .before .before .before .before .before .before))
+mul-slots-11 c =
+    let start = start-of (links-of c) in
+    omega (arith, entries-length (start .args .slots .now), start)
 
 slice-write-slots-4 : tie.Need-slice-write-slots-4
-slice-write-slots-4 c = simp length-set (omega (arith, entries-length (c .before .before .before .before .before .before .before .before .before .before .before .before .args .slots .now), (c .before .before .before .before .before .before .before .before .before .before .before .before)))
+slice-write-slots-4 c =
+    let start = start-of (links-of c) in
+    simp length-set (omega (arith, entries-length (start .args .slots .now), start))
 
 same-length : tie.Need-same-length
 same-length c = search needs
 
 returns : tie.Need-returns
-returns c = stored (c .before .before .before .before .before .before .before .before .before .before .before .before .args .slots .now) (c .before .before .before .before .before .before .before .before .before .before .before .before .args .s .0) (c .before .before .before .before .before .before .before .before .before .before .before .before .args .e) (c .before .before .before .before .before .before .before .before .before .before .before .before .pre) (omega (arith, (c .before .before .before .before .before .before .before .before .before .before .before .before)))
+returns c =
+    let start = start-of (links-of c) in
+    stored (start .args .slots .now) (start .args .s .0) (start .args .e) (start .pre) (omega (arith, start))
 
 pub store-spec : {M : Type 1} → statement M
 store-spec =
