@@ -13,17 +13,30 @@ store-requires : tie.Need-store-requires
 store-requires c κs = search needs
 
 set-next-requires : tie.Need-set-next-requires
-set-next-requires c κs = rw (c .before .before .before .store .ensures, length-set) (c .before .before .before .before .before .before .before .before .pre .hand)
+set-next-requires c κs =
+    let stored = c .before .before .before in
+    let start = stored .before .before .before .before .before in
+    rw (stored .store .ensures, length-set) (start .pre .hand)
 
 set-prev-requires : tie.Need-set-prev-requires
-set-prev-requires c κs = rw (c .before .before .before .set-next .ensures, length-next, c .before .before .before .before .before .before .before .store .ensures, length-set, c .before .before .before .before .before .before .before .before .before .next .ensures) (c .before .before .before .before .before .before .before .before .before .before .before .before .pre .after)
+set-prev-requires c κs =
+    let linked = c .before .before .before in
+    let stored = linked .before .before .before .before in
+    let next = stored .before .before in
+    let start = next .before .before .before in
+    rw (linked .set-next .ensures, length-next, stored .store .ensures, length-set, next .next .ensures) (start .pre .after)
 
 same-length : tie.Need-same-length
 same-length c = search needs
 
 returns : tie.Need-returns
 unfolding linkedAfter
-returns c = rw (c .before .before .set-prev .ensures, c .before .before .before .before .before .before .set-next .ensures, c .before .before .before .before .before .before .before .before .before .before .store .ensures, c .before .before .before .before .before .before .before .before .before .before .before .before .next .ensures)
+returns c =
+    let closed = c .before .before in
+    let linked = closed .before .before .before .before in
+    let stored = linked .before .before .before .before in
+    let next = stored .before .before in
+    rw (closed .set-prev .ensures, linked .set-next .ensures, stored .store .ensures, next .next .ensures)
 
 pub link-after-spec : {M : Type 1} → statement M
 link-after-spec =

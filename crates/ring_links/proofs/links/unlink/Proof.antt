@@ -9,26 +9,43 @@ load-requires : tie.Need-load-requires
 load-requires c κs = search needs
 
 set-next-requires : tie.Need-set-next-requires
-set-next-requires c κs = rw (c .before .before .before .load .ensures) (c .before .before .before .before .before .before .pre .before)
+set-next-requires c κs =
+    let loaded = c .before .before .before in
+    let start = loaded .before .before .before in
+    rw (loaded .load .ensures) (start .pre .before)
 
 set-prev-requires : tie.Need-set-prev-requires
-set-prev-requires c κs = rw (c .before .before .before .set-next .ensures, length-next, c .before .before .before .before .before .before .before .load .ensures) (c .before .before .before .before .before .before .before .before .before .before .pre .after)
+set-prev-requires c κs =
+    let next-set = c .before .before .before in
+    let loaded = next-set .before .before .before .before in
+    let start = loaded .before .before .before in
+    rw (next-set .set-next .ensures, length-next, loaded .load .ensures) (start .pre .after)
 
 blank-entry-requires : tie.Need-blank-entry-requires
 blank-entry-requires c κs = search needs
 
 store-requires : tie.Need-store-requires
-store-requires c κs = rw (c .before .before .before .before .set-prev .ensures, length-prev, c .before .before .before .before .before .before .before .before .set-next .ensures, length-next) (c .before .before .before .before .before .before .before .before .before .before .before .before .before .before .before .pre .slot)
+store-requires c κs =
+    let prev-set = c .before .before .before .before in
+    let next-set = prev-set .before .before .before .before in
+    let start = next-set .before .before .before .before .before .before .before in
+    rw (prev-set .set-prev .ensures, length-prev, next-set .set-next .ensures, length-next) (start .pre .slot)
 
 same-length : tie.Need-same-length
 same-length c = search needs
 
 returns : tie.Need-returns
 unfolding unlinked
-returns c = record {
-  out = rw (c .before .before .store .ensures, c .before .before .before .before .blank-entry .ensures, c .before .before .before .before .before .before .before .set-prev .ensures, c .before .before .before .before .before .before .before .before .before .before .before .set-next .ensures, c .before .before .before .before .before .before .before .before .before .before .before .before .before .before .before .load .ensures);
-  after = rw (c .before .before .before .before .before .before .before .before .before .before .before .before .before .before .before .load .ensures);
-}
+returns c =
+    let cleared = c .before .before in
+    let blank = cleared .before .before in
+    let prev-set = blank .before .before .before in
+    let next-set = prev-set .before .before .before .before in
+    let loaded = next-set .before .before .before .before in
+    record {
+      out = rw (cleared .store .ensures, blank .blank-entry .ensures, prev-set .set-prev .ensures, next-set .set-next .ensures, loaded .load .ensures);
+      after = rw (loaded .load .ensures);
+    }
 
 pub unlink-spec : {M : Type 1} → statement M
 unlink-spec =
