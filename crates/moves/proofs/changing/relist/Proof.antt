@@ -5,17 +5,28 @@ use Rattle.moves.proofs.Relisting.{relisted-same, relist-some, relist-r
 use Rattle.moves.proofs.changing.relist.Statement.{statement}
 use Rattle.moves.proofs.changing.relist.Tie as tie
 
+-- from each place back to the one before it
+abbrev other-of : tie.After-unlist → tie.Else1
+other-of c = c .before .before
+
+abbrev start-of : tie.Else1 → tie.Start
+start-of c = c .before .before .before .before .before
+
 returns : tie.Need-returns
 returns c = λ before after t. relisted-same t (c .if1 .taken)
 
 unlist-requires : tie.Need-unlist-requires
-unlist-requires c κs = listed-index (c .before .before .before .before .before .before .pre .relistable .listed) (c .before .before .before .before .before .before .pre .relistable .long)
+unlist-requires c κs =
+    let start = start-of (c .before) in
+    listed-index (start .pre .relistable .listed) (start .pre .relistable .long)
 
 sub-enlist : tie.Need-sub-enlist
-sub-enlist c = relist-some (c .before .before .before .before .before .before .before .before .before .before .pre .relistable)
+sub-enlist c = relist-some (start-of (other-of (c .before .before .before)) .pre .relistable)
 
 enlist-requires : tie.Need-enlist-requires
-enlist-requires c κs = relist-room (c .before .before .before .before .before .before .before .before .before .before .pre .relistable) (c .before .before .before .unlist .ensures) (c .before .before .before .unlist .kept .0)
+enlist-requires c κs =
+    let unlisted = c .before .before .before in
+    relist-room (start-of (other-of unlisted) .pre .relistable) (unlisted .unlist .ensures) (unlisted .unlist .kept .0)
 
 same-length : tie.Need-same-length
 same-length c = search needs

@@ -5,17 +5,34 @@ use Rattle.moves.proofs.Replacement.{slot-inside, can-relist, replaced-
 use Rattle.moves.proofs.changing.replace_at.Statement.{statement}
 use Rattle.moves.proofs.changing.replace_at.Tie as tie
 
+-- from each place back to the one before it
+abbrev relisted-of : tie.After-store → tie.After-relist
+relisted-of c = c .before .before .before .before
+
+abbrev loaded-of : tie.After-relist → tie.After-load
+loaded-of c = c .before .before .before .before
+
+abbrev start-of : tie.After-load → tie.Start
+start-of c = c .before .before .before .before
+
 load-requires : tie.Need-load-requires
-load-requires c κs = slot-inside (c .before .before .before .pre .holds) (c .before .before .before .pre .stands)
+load-requires c κs =
+    let start = c .before .before .before in
+    slot-inside (start .pre .holds) (start .pre .stands)
 
 cast-relist : tie.Need-cast-relist
 cast-relist c = search needs
 
 relist-requires : tie.Need-relist-requires
-relist-requires c κs = can-relist (c .before .before .before .before .before .before .before .pre .holds) (c .before .before .before .before .before .before .before .pre .stands) (c .before .before .before .before .before .before .before .pre .free) (c .before .before .before .load .ensures)
+relist-requires c κs =
+    let loaded = c .before .before .before in
+    let start = start-of loaded in
+    can-relist (start .pre .holds) (start .pre .stands) (start .pre .free) (loaded .load .ensures)
 
 store-requires : tie.Need-store-requires
-store-requires c κs = slot-inside (c .before .before .before .before .before .before .before .before .before .before .before .pre .holds) (c .before .before .before .before .before .before .before .before .before .before .before .pre .stands)
+store-requires c κs =
+    let start = start-of (loaded-of (c .before .before .before)) in
+    slot-inside (start .pre .holds) (start .pre .stands)
 
 count-over-requires : tie.Need-count-over-requires
 count-over-requires c κs = search needs
@@ -27,16 +44,20 @@ same-length-2 : tie.Need-same-length-2
 same-length-2 c = search needs
 
 returns : tie.Need-returns
-returns c = λ by-key marks w key e H at free. replaced-at H at free (c .before .before .before .before .before .before .before .before .before .before .before .before .before .before .before .pre .flags) (record {
-  old = c .before .before .before .before .before .before .before .before .before .before .before .load .result;
-  estimate = c .count-over .result;
-  loaded = c .before .before .before .before .before .before .before .before .before .before .before .load .ensures;
-  handles-kept = c .before .before .before .before .before .before .before .relist .kept .0;
-  relisted = c .before .before .before .before .before .before .before .relist .ensures;
-  stored = record { long = c .before .before .before .store .kept .0; written = c .before .before .before .store .ensures };
-  counted = c .count-over .ensures;
-  head-is = refl;
-})
+returns c =
+    let stored = c .before .before .before in
+    let relisted = relisted-of stored in
+    let loaded = loaded-of relisted in
+    λ by-key marks w key e H at free. replaced-at H at free (start-of loaded .pre .flags) (record {
+      old = loaded .load .result;
+      estimate = c .count-over .result;
+      loaded = loaded .load .ensures;
+      handles-kept = relisted .relist .kept .0;
+      relisted = relisted .relist .ensures;
+      stored = record { long = stored .store .kept .0; written = stored .store .ensures };
+      counted = c .count-over .ensures;
+      head-is = refl;
+    })
 
 pub replace-at-spec : {M : Type 1} → statement M
 replace-at-spec =
