@@ -45,7 +45,9 @@ shared-slice-read-result-4 : tie.Need-shared-slice-read-result-4
 shared-slice-read-result-4 c = omega (arith, entries-length (c .before .before .before .before .before .args .slots .now))
 
 returns : tie.Need-returns
-returns c = blank-tested (c .before .before .before .before .before .args .slots .now) (c .before .before .before .before .before .args .s .0) (c .before .before .before .before .before .pre)
+returns c =
+    let start = c .before .before .before .before .before in
+    blank-tested (start .args .slots .now) (start .args .s .0) (start .pre)
 
 pub is-blank-spec : {M : Type 1} → statement M
 is-blank-spec =

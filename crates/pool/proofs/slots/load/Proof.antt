@@ -79,7 +79,9 @@ cast-t33 c = omega (arith, c .before .before .shared-slice-known2 .given (c .bef
 
 returns : tie.Need-returns
 unfolding decode
-returns c = sym (entries-at (c .before .before .before .before .before .args .slots .now) (c .before .before .before .before .before .args .s .0) (c .before .before .before .before .before .pre))
+returns c =
+    let start = c .before .before .before .before .before in
+    sym (entries-at (start .args .slots .now) (start .args .s .0) (start .pre))
 
 pub load-spec : {M : Type 1} → statement M
 load-spec =

@@ -43,7 +43,13 @@ returns c =
     let next-set = prev-set .before .before .before .before in
     let loaded = next-set .before .before .before .before in
     record {
-      out = rw (cleared .store .ensures, blank .blank-entry .ensures, prev-set .set-prev .ensures, next-set .set-next .ensures, loaded .load .ensures);
+      out = rw (
+        cleared .store .ensures,
+        blank .blank-entry .ensures,
+        prev-set .set-prev .ensures,
+        next-set .set-next .ensures,
+        loaded .load .ensures,
+      );
       after = rw (loaded .load .ensures);
     }
 
