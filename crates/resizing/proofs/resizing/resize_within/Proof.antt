@@ -5,6 +5,9 @@ use Rattle.resizing.proofs.resizing.resize_within.Statement.{statement}
 use Rattle.resizing.proofs.resizing.resize_within.Tie as tie
 
 -- from each place back to the one before it
+abbrev evictions-of : tie.After-slice-known10 → tie.After-evict-to
+evictions-of c = c .before .before .before .before .before .before .before .before .before .before
+
 abbrev other-of : tie.After-evict-to → tie.Else1
 other-of c = c .before .before .before .before .before .before
 
@@ -22,7 +25,7 @@ evict-to-requires c κs = search needs
 
 resized-requires : tie.Need-resized-requires
 resized-requires c κs =
-    let evictions = c .before .before .before .before .before .before .before .before .before .before in
+    let evictions = evictions-of c in
     let start = start-of (other-of evictions) in
     few-listed _ (start .pre .ready .sound .holds) (evictions .evict-to .ensures _ (start .pre .ready .sound .holds))
 
@@ -43,7 +46,7 @@ same-length-5 c = search needs
 
 returns-2 : tie.Need-returns-2
 returns-2 c =
-    let evictions = c .before .before .before .before .before .before .before .before .before .before .before in
+    let evictions = evictions-of (c .before) in
     let other = other-of evictions in
     let start = start-of other in
     λ w H. rw (c .resized .ensures) (resize-other _ H (evictions .evict-to .ensures w H) (other .if1 .left) (rw (evictions .evict-to .kept .1 .0) (start .pre .within)))
