@@ -81,9 +81,10 @@ same-length-7 c = search needs
 
 returns-3 : tie.Need-returns-3
 returns-3 c = λ w H.
-    let seat = c .before .before .before .before .before .before .before .before .before .before .before .before .before .before .before .before .before in
+    let deleted = c .before .before .before .before .before .before .before .before .before .before in
+    let seat = deleted .before .before .before .before .before .before .before in
     let at = found seat w H .stands in
-    delete-there H _ (long seat) at (c .before .before .before .before .before .before .before .before .before .before .delete-at .ensures w _ _ H at)
+    delete-there H _ (long seat) at (deleted .delete-at .ensures w _ _ H at)
 
 pub delete-spec : {M : Type 1} → statement M
 delete-spec =

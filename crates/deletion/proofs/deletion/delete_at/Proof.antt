@@ -7,6 +7,10 @@ use Rattle.deletion.proofs.Deleting.{goes-comes, stays-comes}
 use Rattle.deletion.proofs.deletion.delete_at.Statement.{statement}
 use Rattle.deletion.proofs.deletion.delete_at.Tie as tie
 
+-- from the deletion back to the start
+abbrev start-of : tie.After-delete-page → tie.Start
+start-of c = c .before .before .before .before .before .before .before .before .before .before .before
+
 delete-page-requires : tie.Need-delete-page-requires
 delete-page-requires c κs = search needs
 
@@ -37,7 +41,7 @@ same-length-5 c = search needs
 returns : tie.Need-returns
 returns c = λ w key e H at.
     let deleted = c .before .before .before .before .before .before .before .before .before .before .before .before .before in
-    let start = deleted .before .before .before .before .before .before .before .before .before .before .before in
+    let start = start-of deleted in
     goes-comes (start .args .done) (start .pre .within) (rw (c .before .left .given .1) at (deleted .delete-page .ensures w key e H at))
 
 same-length-6 : tie.Need-same-length-6
@@ -58,7 +62,7 @@ same-length-10 c = search needs
 returns-2 : tie.Need-returns-2
 returns-2 c = λ w key e H at.
     let deleted = c .before .before .before .before .before .before .before .before .before .before .before .before .before .before in
-    let done = deleted .before .before .before .before .before .before .before .before .before .before .before .args .done in
+    let done = start-of deleted .args .done in
     comes-told (c .plain .ensures)
     (stays-comes (answer (codeOf done) (valueOf done)) H (rw (c .before .before .why .given .1) at (deleted .delete-page .ensures w key e H at)))
 

@@ -13,8 +13,14 @@ use Rattle.deletion.proofs.deletion.delete_page.Tie as tie
 may-not : (c : tie.At-match-keys2) → c .before .deletable .result ≢ Yes
 may-not c granted = some-reason (rw granted at (c .match .keys2))
 
+-- from where the page may go back to the start
+abbrev start-of : tie.After-enum-told → tie.Start
+start-of c = c .before .before .before .before .before .before .before .before .before .before
+
 load-requires : tie.Need-load-requires
-load-requires c κs = slot-inside (c .before .before .before .before .before .before .pre .removable .holds) (c .before .before .before .before .before .before .pre .removable .stands)
+load-requires c κs =
+    let start = c .before .before .before .before .before .before in
+    slot-inside (start .pre .removable .holds) (start .pre .removable .stands)
 
 deletable-requires : tie.Need-deletable-requires
 deletable-requires c κs = search needs
@@ -34,13 +40,15 @@ returns c = λ w key e H at.
     page-stays H at (asked .before .load .ensures) (asked .deletable .ensures) (may-not (c .before)) (c .refusal .ensures)
 
 mul-list : tie.Need-mul-list
-mul-list c = omega (arith, c .before .before .before .before .before .before .before .before .before .before .pre .within, c .before .before .before .before .before .before .before .before .before .before .good)
+mul-list c =
+    let start = start-of c in
+    omega (arith, start .pre .within, start .good)
 
 slice-write-list : tie.Need-slice-write-list
-slice-write-list c = c .before .before .before .before .before .before .before .before .before .before .pre .within
+slice-write-list c = start-of c .pre .within
 
 remove-at-slot-requires : tie.Need-remove-at-slot-requires
-remove-at-slot-requires c κs = c .before .before .before .before .before .before .before .before .before .before .before .before .before .before .pre .removable
+remove-at-slot-requires c κs = start-of (c .before .before .before .before) .pre .removable
 
 same-length-2 : tie.Need-same-length-2
 same-length-2 c = search needs
