@@ -100,7 +100,9 @@ same-length : tie.Need-same-length
 same-length c = simp length-set
 
 returns : tie.Need-returns
-returns c = page-stores (c .before .before .before .before .before .before .before .before .args .list .now) (c .before .before .before .before .before .before .before .before .args .at) (c .before .before .before .before .before .before .before .before .args .p)
+returns c =
+    let start = c .before .before .before .before .before .before .before .before in
+    page-stores (start .args .list .now) (start .args .at) (start .args .p)
 
 pub put-page-spec : {M : Type 1} → statement M
 put-page-spec =
