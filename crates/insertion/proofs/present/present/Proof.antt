@@ -5,6 +5,10 @@ use Rattle.insertion.proofs.Presents.{present-inside, touched-replaceab
 use Rattle.insertion.proofs.present.present.Statement.{statement}
 use Rattle.insertion.proofs.present.present.Tie as tie
 
+-- from the test of the form back to the start
+abbrev start-of : tie.After-replaces → tie.Start
+start-of c = c .before .before .before .before .before .before
+
 load-requires : tie.Need-load-requires
 load-requires c κs = present-inside (c .before .before .before .pre)
 
@@ -12,13 +16,12 @@ replaces-requires : tie.Need-replaces-requires
 replaces-requires c κs = search needs
 
 touch-at-requires : tie.Need-touch-at-requires
-touch-at-requires c κs = present-inside (c .before .before .before .before .before .before .before .before .pre)
+touch-at-requires c κs = present-inside (start-of (c .before .before) .pre)
 
 replace-at-requires : tie.Need-replace-at-requires
 replace-at-requires c κs =
     let at-touch-at = c .before .before .before .before in
-    let start = at-touch-at .before .before .before .before .before .before .before .before .before in
-    touched-replaceable (start .pre) (at-touch-at .touch-at .ensures)
+    touched-replaceable (start-of (at-touch-at .before .before .before) .pre) (at-touch-at .touch-at .ensures)
 
 plain-requires : tie.Need-plain-requires
 plain-requires c κs = search needs
@@ -53,7 +56,7 @@ returns-2 c =
     rw (c .plain2 .ensures) (presents-other (at-load .load .ensures) (sym (at-replaces .replaces .ensures) ∙ at-if1 .if1 .left) (at-if2 .if2 .taken))
 
 touch-at-requires-2 : tie.Need-touch-at-requires-2
-touch-at-requires-2 c κs = present-inside (c .before .before .before .before .before .before .before .before .before .before .before .pre)
+touch-at-requires-2 c κs = present-inside (start-of (c .before .before .before .before .before) .pre)
 
 plain-requires-3 : tie.Need-plain-requires-3
 plain-requires-3 c κs = search needs
