@@ -11,16 +11,25 @@ cast-if2 : tie.Need-cast-if2
 cast-if2 c = search needs
 
 returns-2 : tie.Need-returns-2
-returns-2 c = no-slot (c .before .before .before .before .before .before .args .slots .now) (c .before .before .before .before .before .before .args .head) (c .before .before .if1 .left) (c .if2 .taken)
+returns-2 c =
+    let held = c .before .before in
+    let start = held .before .before .before .before in
+    no-slot (start .args .slots .now) (start .args .head) (held .if1 .left) (c .if2 .taken)
 
 load-requires : tie.Need-load-requires
-load-requires c κs = quarter (c .before .before .before .before .before .before .args .slots .now) (c .before .before .before .before .before .before .args .head .hand .0) (c .if2 .left)
+load-requires c κs =
+    let start = c .before .before .before .before .before .before in
+    quarter (start .args .slots .now) (start .args .head .hand .0) (c .if2 .left)
 
 cast-result : tie.Need-cast-result
 cast-result c = search needs
 
 returns-3 : tie.Need-returns-3
-returns-3 c = a-slot (c .before .before .before .before .before .before .before .before .before .args .slots .now) (c .before .before .before .before .before .before .before .before .before .args .head) (c .before .before .before .before .before .if1 .left) (c .before .before .before .if2 .left) (c .before .before .load .ensures)
+returns-3 c =
+    let slot = c .before .before .before in
+    let held = slot .before .before in
+    let start = held .before .before .before .before in
+    a-slot (start .args .slots .now) (start .args .head) (held .if1 .left) (slot .if2 .left) (c .before .before .load .ensures)
 
 pub hand-key-spec : {M : Type 1} → statement M
 hand-key-spec = tie.close (tie.spec returns cast-if2 returns-2 load-requires cast-result returns-3)

@@ -53,7 +53,14 @@ same-length : tie.Need-same-length
 same-length c = search needs
 
 returns : tie.Need-returns
-returns c = record { answer = answer-stored (c .before .before .before .before .before .before .before .before .args .answer .now) (entries (c .before .before .before .before .before .before .before .before .args .slots .now)) (c .before .before .before .before .before .before .before .before .args .answered) (c .before .before .before .before .before .before .before .before .pre) (c .before .before .before .before .code-of .ensures) (c .before .before .before .value-of .ensures) (c .before .hand-key .ensures); code = c .before .before .before .before .code-of .ensures }
+returns c =
+    let told = c .before .before .before .before in
+    let start = told .before .before .before .before in
+    record {
+      answer = answer-stored (start .args .answer .now) (entries (start .args .slots .now)) (start .args .answered) (start .pre)
+          (told .code-of .ensures) (c .before .before .before .value-of .ensures) (c .before .hand-key .ensures);
+      code = told .code-of .ensures;
+    }
 
 pub put-answer-spec : {M : Type 1} → statement M
 put-answer-spec =

@@ -5,6 +5,10 @@ use Rattle.c_numbers.proofs.Numbers.{written, kept}
 use Rattle.c_numbers.proofs.heads.put_answered.Statement.{statement}
 use Rattle.c_numbers.proofs.heads.put_answered.Tie as tie
 
+-- from the test back to the start
+abbrev start-of : tie.After-fit → tie.Start
+start-of c = c .before .before .before .before .before
+
 code-of-requires : tie.Need-code-of-requires
 code-of-requires c κs = search needs
 
@@ -18,13 +22,23 @@ same-length : tie.Need-same-length
 same-length c = search needs
 
 returns : tie.Need-returns
-returns c = c .before .before .put-head .ensures ∙ written (c .before .before .before .before .before .before .before .before .before .before .args .head .now) (c .before .before .before .before .before .fit .ensures) (c .before .before .before .before .before .before .before .before .before .before .args .answered) (c .before .before .before .before .before .before .before .code-of .ensures) (c .before .before .before .before .if1 .taken)
+returns c =
+    let test = c .before .before .before .before in
+    let fit = test .before in
+    let told = fit .before .before in
+    let start = start-of fit in
+    c .before .before .put-head .ensures
+    ∙ written (start .args .head .now) (fit .fit .ensures) (start .args .answered) (told .code-of .ensures) (test .if1 .taken)
 
 same-length-2 : tie.Need-same-length-2
 same-length-2 c = search needs
 
 returns-2 : tie.Need-returns-2
-returns-2 c = kept (c .before .before .before .before .before .before .args .head .now) (c .before .fit .ensures) (c .before .before .before .before .before .before .args .answered) (c .before .before .before .code-of .ensures) (c .if1 .left)
+returns-2 c =
+    let fit = c .before in
+    let told = fit .before .before in
+    let start = start-of fit in
+    kept (start .args .head .now) (fit .fit .ensures) (start .args .answered) (told .code-of .ensures) (c .if1 .left)
 
 pub put-answered-spec : {M : Type 1} → statement M
 put-answered-spec =
