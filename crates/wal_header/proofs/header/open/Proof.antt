@@ -9,17 +9,24 @@ use Rattle.wal_header.proofs.Opening.{tested, sums-compared, header-rea
 use Rattle.wal_header.proofs.header.open.Statement.{statement}
 use Rattle.wal_header.proofs.header.open.Tie as tie
 
+-- from each place back to the one before it
+abbrev magic-of : tie.Else4 → tie.Else2
+magic-of c = c .before .before .before .before .before
+
+abbrev start-of : tie.Else2 → tie.Start
+start-of c = c .before .before .before .before .before
+
 -- what is known after each test that the header passed
-known : (c : tie.Else2) → Known (c .before .before .before .before .before .args .log .now)
+known : (c : tie.Else2) → Known (start-of c .args .log .now)
 known c = record {
   long = c .before .before .before .if1 .left;
   magic = tested isMagic (c .before .is-magic .ensures) (c .before .before .number-at .ensures) (not-false _ (c .if2 .left));
 }
 
-current : (c : tie.Else3) → Current (c .before .before .before .before .before .before .before .args .log .now)
+current : (c : tie.Else3) → Current (start-of (c .before .before) .args .log .now)
 current c = record { known = known (c .before .before); version = sym (c .before .number-at2 .ensures) ∙ c .if3 .left }
 
-sized : (c : tie.Else4) → Sized (c .before .before .before .before .before .before .before .before .before .before .args .log .now)
+sized : (c : tie.Else4) → Sized (start-of (magic-of c) .args .log .now)
 sized c = record {
   current = current (c .before .before .before);
   size = tested isPageSize (c .before .is-page-size .ensures) (c .before .before .number-at3 .ensures) (not-false _ (c .if4 .left));
@@ -27,11 +34,11 @@ sized c = record {
 
 compared : (c : tie.After-same)
     → c .same .result
-    ≡ sameSums (headerSums (c .before .before .before .before .before .before .before .before .before .before .before .before .before .args .log .now))
-    (sumsAt (c .before .before .before .before .before .before .before .before .before .before .before .before .before .args .log .now) 24)
+    ≡ sameSums (headerSums (start-of (magic-of (c .before .before .before)) .args .log .now))
+    (sumsAt (start-of (magic-of (c .before .before .before)) .args .log .now) 24)
 compared c =
     let at-sums = c .before .before in
-    let at-magic = at-sums .before .before .before .before .before .before .before .before in
+    let at-magic = magic-of (at-sums .before) .before .before in
     sums-compared _ (at-magic .number-at .ensures) (at-sums .checksum .ensures) (c .before .sums-at .ensures) (c .same .ensures)
 
 returns : tie.Need-returns
