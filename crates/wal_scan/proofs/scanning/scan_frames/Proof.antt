@@ -12,6 +12,13 @@ Inv-loop fd says piece₀ header out₀ at₀ summary₀ piece out at summary = 
 abbrev μ-loop : tie.MeasureT-loop
 μ-loop fd says piece₀ header out₀ at₀ summary₀ piece out at summary = longest - summary .end
 
+-- from each place back to the one before it
+abbrev turn-of : tie.Else2 Inv-loop μ-loop → tie.Then1 Inv-loop μ-loop
+turn-of c = c .before .before .before .before .before .before .before .before .before .before
+
+abbrev loop-of : tie.Then1 Inv-loop μ-loop → tie.At-loop Inv-loop μ-loop
+loop-of c = c .before .before
+
 put-page-size-requires : tie.Need-put-page-size-requires Inv-loop μ-loop
 put-page-size-requires c κs = search needs
 
@@ -41,9 +48,9 @@ returns-2 c = search needs
 
 add-frame-requires : tie.Need-add-frame-requires Inv-loop μ-loop
 add-frame-requires c κs =
-    let at-test = c .before .before .before .before .before .before .before .before .before .before in
-    let at-loop = at-test .before .before in
-    countable (at-loop .loop .inv) (at-loop .before .before .before .before .before .pre) (at-test .if1 .taken)
+    let turn = turn-of c in
+    let loop = loop-of turn in
+    countable (loop .loop .inv) (loop .before .before .before .before .before .pre) (turn .if1 .taken)
 
 put-frame-requires : tie.Need-put-frame-requires Inv-loop μ-loop
 put-frame-requires c κs = search needs
@@ -51,16 +58,15 @@ put-frame-requires c κs = search needs
 loop-less : tie.Need-loop-less Inv-loop μ-loop
 loop-less c =
     let at-frame = c .before .before in
-    let at-test = at-frame .before .before .before .before .before .before .before .before .before .before .before in
-    further (at-test .before .before .loop .inv) _ (at-frame .add-frame .ensures) (at-test .if1 .taken)
+    let turn = turn-of (at-frame .before) in
+    further (loop-of turn .loop .inv) _ (at-frame .add-frame .ensures) (turn .if1 .taken)
 
 loop-again : tie.Need-loop-again Inv-loop μ-loop
 loop-again c =
     let at-frame = c .before .before in
-    let at-place = at-frame .before .before .before in
-    let at-loop = at-place .before .before .before .before .before .before .before .before .before .before in
-    let room = at-place .next-place .ensures in
-    going-more (at-loop .loop .inv) _ (at-frame .add-frame .ensures) (omega (arith, c .put-frame .ensures, room))
+    let loop = loop-of (turn-of (at-frame .before)) in
+    let room = at-frame .before .before .before .next-place .ensures in
+    going-more (loop .loop .inv) _ (at-frame .add-frame .ensures) (omega (arith, c .put-frame .ensures, room))
 
 finish-requires-2 : tie.Need-finish-requires-2 Inv-loop μ-loop
 finish-requires-2 c κs = search needs
