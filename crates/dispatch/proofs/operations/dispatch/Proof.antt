@@ -9,53 +9,87 @@ use Rattle.dispatch.proofs.Running.{sound-at, ran-call, ran-creation, r
 use Rattle.dispatch.proofs.operations.dispatch.Statement.{statement}
 use Rattle.dispatch.proofs.operations.dispatch.Tie as tie
 
+-- from where the arms part back to the start
+abbrev start-of : tie.After-page → tie.Start
+start-of c = c .before .before .before .before .before .before .before .before
+
 create-requires : tie.Need-create-requires
 create-requires c κs = search needs
 
 insert-requires : tie.Need-insert-requires
-insert-requires c κs = sound-at (c .before .before .before .before .before .before .before .before .before .before .before .before .before .before .pre) (c .before .before .before .before .before .match .keys2) (omega arith) (omega arith)
+insert-requires c κs =
+    let arm = c .before .before .before .before .before in
+    sound-at (start-of (arm .before) .pre) (arm .match .keys2) (omega arith) (omega arith)
 
 force-insert-page-requires : tie.Need-force-insert-page-requires
-force-insert-page-requires c κs = sound-at (c .before .before .before .before .before .before .before .before .before .before .before .before .before .before .pre) (c .before .before .before .before .before .match .keys3) (omega arith) (omega arith)
+force-insert-page-requires c κs =
+    let arm = c .before .before .before .before .before in
+    sound-at (start-of (arm .before) .pre) (arm .match .keys3) (omega arith) (omega arith)
 
 force-upsert-page-requires : tie.Need-force-upsert-page-requires
-force-upsert-page-requires c κs = sound-at (c .before .before .before .before .before .before .before .before .before .before .before .before .before .before .pre) (c .before .before .before .before .before .match .keys4) (omega arith) (omega arith)
+force-upsert-page-requires c κs =
+    let arm = c .before .before .before .before .before in
+    sound-at (start-of (arm .before) .pre) (arm .match .keys4) (omega arith) (omega arith)
 
 get-requires : tie.Need-get-requires
-get-requires c κs = sound-at (c .before .before .before .before .before .before .before .before .before .before .before .before .before .before .pre) (c .before .before .before .before .before .match .keys5) (omega arith) (omega arith)
+get-requires c κs =
+    let arm = c .before .before .before .before .before in
+    sound-at (start-of (arm .before) .pre) (arm .match .keys5) (omega arith) (omega arith)
 
 peek-requires : tie.Need-peek-requires
-peek-requires c κs = record { by-handle = _; marks = _; sound = sound-at (c .before .before .before .before .before .before .before .before .before .before .before .pre) (c .before .before .match .keys6) (omega arith) (omega arith) }
+peek-requires c κs =
+    let arm = c .before .before in
+    record { by-handle = _; marks = _; sound = sound-at (start-of (arm .before) .pre) (arm .match .keys6) (omega arith) (omega arith) }
 
 delete-requires : tie.Need-delete-requires
-delete-requires c κs = sound-at (c .before .before .before .before .before .before .before .before .before .before .before .before .before .before .pre) (c .before .before .before .before .before .match .keys7) (omega arith) (omega arith)
+delete-requires c κs =
+    let arm = c .before .before .before .before .before in
+    sound-at (start-of (arm .before) .pre) (arm .match .keys7) (omega arith) (omega arith)
 
 resize-requires : tie.Need-resize-requires
-resize-requires c κs = sound-at (c .before .before .before .before .before .before .before .before .before .before .before .before .before .before .pre) (c .before .before .before .before .before .match .keys8) (omega arith) (omega arith)
+resize-requires c κs =
+    let arm = c .before .before .before .before .before in
+    sound-at (start-of (arm .before) .pre) (arm .match .keys8) (omega arith) (omega arith)
 
 truncate-requires : tie.Need-truncate-requires
-truncate-requires c κs = sound-at (c .before .before .before .before .before .before .before .before .before .before .before .before .before .before .pre) (c .before .before .before .before .before .match .keys9) (omega arith) (omega arith)
+truncate-requires c κs =
+    let arm = c .before .before .before .before .before in
+    sound-at (start-of (arm .before) .pre) (arm .match .keys9) (omega arith) (omega arith)
 
 delete-clean-pages-after-wal-frame-requires : tie.Need-delete-clean-pages-after-wal-frame-requires
-delete-clean-pages-after-wal-frame-requires c κs = sound-at (c .before .before .before .before .before .before .before .before .before .before .before .before .before .before .pre) (c .before .before .before .before .before .match .keys10) (omega arith) (omega arith)
+delete-clean-pages-after-wal-frame-requires c κs =
+    let arm = c .before .before .before .before .before in
+    sound-at (start-of (arm .before) .pre) (arm .match .keys10) (omega arith) (omega arith)
 
 clear-requires : tie.Need-clear-requires
-clear-requires c κs = sound-at (c .before .before .before .before .before .before .before .before .before .before .before .before .before .before .pre) (c .before .before .before .before .before .match .keys11) (omega arith) (omega arith)
+clear-requires c κs =
+    let arm = c .before .before .before .before .before in
+    sound-at (start-of (arm .before) .pre) (arm .match .keys11) (omega arith) (omega arith)
 
 notify-page-dirty-requires : tie.Need-notify-page-dirty-requires
-notify-page-dirty-requires c κs = record { by-handle = _; marks = _; sound = sound-at (c .before .before .before .before .before .before .before .before .before .before .before .pre) (c .before .before .match .keys12) (omega arith) (omega arith) }
+notify-page-dirty-requires c κs =
+    let arm = c .before .before in
+    record { by-handle = _; marks = _; sound = sound-at (start-of (arm .before) .pre) (arm .match .keys12) (omega arith) (omega arith) }
 
 notify-page-spilled-requires : tie.Need-notify-page-spilled-requires
-notify-page-spilled-requires c κs = record { by-handle = _; marks = _; sound = sound-at (c .before .before .before .before .before .before .before .before .before .before .before .pre) (c .before .before .match .keys13) (omega arith) (omega arith) }
+notify-page-spilled-requires c κs =
+    let arm = c .before .before in
+    record { by-handle = _; marks = _; sound = sound-at (start-of (arm .before) .pre) (arm .match .keys13) (omega arith) (omega arith) }
 
 write-record-requires : tie.Need-write-record-requires
-write-record-requires c κs = record { by-handle = _; marks = _; sound = sound-at (c .before .before .before .before .before .before .before .before .before .before .before .pre) (c .before .before .match .keys14) (omega arith) (omega arith) }
+write-record-requires c κs =
+    let arm = c .before .before in
+    record { by-handle = _; marks = _; sound = sound-at (start-of (arm .before) .pre) (arm .match .keys14) (omega arith) (omega arith) }
 
 check-spill-requires : tie.Need-check-spill-requires
-check-spill-requires c κs = sound-readable (sound-at (c .before .before .before .before .before .before .before .before .before .before .before .before .pre) (c .before .before .before .match .keys15) (omega arith) (omega arith))
+check-spill-requires c κs =
+    let arm = c .before .before .before in
+    sound-readable (sound-at (start-of (arm .before) .pre) (arm .match .keys15) (omega arith) (omega arith))
 
 evict-requires : tie.Need-evict-requires
-evict-requires c κs = sound-at (c .before .before .before .before .before .before .before .before .before .before .before .before .before .before .pre) (c .before .before .before .before .before .match .keys16) (omega arith) (omega arith)
+evict-requires c κs =
+    let arm = c .before .before .before .before .before in
+    sound-at (start-of (arm .before) .pre) (arm .match .keys16) (omega arith) (omega arith)
 
 set-spill-enabled-requires : tie.Need-set-spill-enabled-requires
 set-spill-enabled-requires c κs = search needs
@@ -76,7 +110,9 @@ same-length-4 : tie.Need-same-length-4
 same-length-4 c = search needs
 
 returns : tie.Need-returns
-returns c = ran-creation (c .before .before .before .before .before .before .before .before .before .before .before .before .before .match .keys1) (c .before .before .before .before .before .before .before .before .create .ensures) refl
+returns c =
+    let called = c .before .before .before .before .before .before .before .before in
+    ran-creation (called .before .before .before .before .before .match .keys1) (called .create .ensures) refl
 
 same-length-5 : tie.Need-same-length-5
 same-length-5 c = search needs
@@ -94,7 +130,9 @@ same-length-9 : tie.Need-same-length-9
 same-length-9 c = search needs
 
 returns-2 : tie.Need-returns-2
-returns-2 c = ran-call 1 _ refl (c .before .before .before .before .before .before .before .before .before .before .before .before .before .before .before .before .match .keys2) (c .before .before .before .before .before .before .before .before .before .before .insert .ensures)
+returns-2 c =
+    let called = c .before .before .before .before .before .before .before .before .before .before in
+    ran-call 1 _ refl (called .before .before .before .before .before .before .match .keys2) (called .insert .ensures)
 
 same-length-10 : tie.Need-same-length-10
 same-length-10 c = search needs
@@ -112,7 +150,9 @@ same-length-14 : tie.Need-same-length-14
 same-length-14 c = search needs
 
 returns-3 : tie.Need-returns-3
-returns-3 c = ran-call 2 _ refl (c .before .before .before .before .before .before .before .before .before .before .before .before .before .before .before .before .match .keys3) (c .before .before .before .before .before .before .before .before .before .before .force-insert-page .ensures)
+returns-3 c =
+    let called = c .before .before .before .before .before .before .before .before .before .before in
+    ran-call 2 _ refl (called .before .before .before .before .before .before .match .keys3) (called .force-insert-page .ensures)
 
 same-length-15 : tie.Need-same-length-15
 same-length-15 c = search needs
@@ -130,7 +170,9 @@ same-length-19 : tie.Need-same-length-19
 same-length-19 c = search needs
 
 returns-4 : tie.Need-returns-4
-returns-4 c = ran-call 3 _ refl (c .before .before .before .before .before .before .before .before .before .before .before .before .before .before .before .before .match .keys4) (c .before .before .before .before .before .before .before .before .before .before .force-upsert-page .ensures)
+returns-4 c =
+    let called = c .before .before .before .before .before .before .before .before .before .before in
+    ran-call 3 _ refl (called .before .before .before .before .before .before .match .keys4) (called .force-upsert-page .ensures)
 
 same-length-20 : tie.Need-same-length-20
 same-length-20 c = search needs
@@ -148,7 +190,9 @@ same-length-24 : tie.Need-same-length-24
 same-length-24 c = search needs
 
 returns-5 : tie.Need-returns-5
-returns-5 c = ran-call 4 _ refl (c .before .before .before .before .before .before .before .before .before .before .before .before .before .before .before .before .match .keys5) (c .before .before .before .before .before .before .before .before .before .before .get .ensures)
+returns-5 c =
+    let called = c .before .before .before .before .before .before .before .before .before .before in
+    ran-call 4 _ refl (called .before .before .before .before .before .before .match .keys5) (called .get .ensures)
 
 same-length-25 : tie.Need-same-length-25
 same-length-25 c = search needs
@@ -157,7 +201,9 @@ same-length-26 : tie.Need-same-length-26
 same-length-26 c = search needs
 
 returns-6 : tie.Need-returns-6
-returns-6 c = ran-call 5 _ refl (c .before .before .before .before .before .match .keys6) (λ d h. quiet-comes (quiet-peek _ _) d (c .before .before .peek .ensures _ _ d h))
+returns-6 c =
+    let called = c .before .before in
+    ran-call 5 _ refl (called .before .before .before .match .keys6) (λ d h. quiet-comes (quiet-peek _ _) d (called .peek .ensures _ _ d h))
 
 same-length-27 : tie.Need-same-length-27
 same-length-27 c = search needs
@@ -175,7 +221,9 @@ same-length-31 : tie.Need-same-length-31
 same-length-31 c = search needs
 
 returns-7 : tie.Need-returns-7
-returns-7 c = ran-call 6 _ refl (c .before .before .before .before .before .before .before .before .before .before .before .before .before .before .before .before .match .keys7) (c .before .before .before .before .before .before .before .before .before .before .delete .ensures)
+returns-7 c =
+    let called = c .before .before .before .before .before .before .before .before .before .before in
+    ran-call 6 _ refl (called .before .before .before .before .before .before .match .keys7) (called .delete .ensures)
 
 same-length-32 : tie.Need-same-length-32
 same-length-32 c = search needs
@@ -193,7 +241,9 @@ same-length-36 : tie.Need-same-length-36
 same-length-36 c = search needs
 
 returns-8 : tie.Need-returns-8
-returns-8 c = ran-call 7 _ refl (c .before .before .before .before .before .before .before .before .before .before .before .before .before .before .before .before .match .keys8) (c .before .before .before .before .before .before .before .before .before .before .resize .ensures)
+returns-8 c =
+    let called = c .before .before .before .before .before .before .before .before .before .before in
+    ran-call 7 _ refl (called .before .before .before .before .before .before .match .keys8) (called .resize .ensures)
 
 same-length-37 : tie.Need-same-length-37
 same-length-37 c = search needs
@@ -211,7 +261,9 @@ same-length-41 : tie.Need-same-length-41
 same-length-41 c = search needs
 
 returns-9 : tie.Need-returns-9
-returns-9 c = ran-call 8 _ refl (c .before .before .before .before .before .before .before .before .before .before .before .before .before .before .before .before .match .keys9) (c .before .before .before .before .before .before .before .before .before .before .truncate .ensures)
+returns-9 c =
+    let called = c .before .before .before .before .before .before .before .before .before .before in
+    ran-call 8 _ refl (called .before .before .before .before .before .before .match .keys9) (called .truncate .ensures)
 
 same-length-42 : tie.Need-same-length-42
 same-length-42 c = search needs
@@ -229,7 +281,10 @@ same-length-46 : tie.Need-same-length-46
 same-length-46 c = search needs
 
 returns-10 : tie.Need-returns-10
-returns-10 c = ran-call 9 _ refl (c .before .before .before .before .before .before .before .before .before .before .before .before .before .before .before .before .match .keys10) (c .before .before .before .before .before .before .before .before .before .before .delete-clean-pages-after-wal-frame .ensures)
+returns-10 c =
+    let called = c .before .before .before .before .before .before .before .before .before .before in
+    ran-call 9 _ refl (called .before .before .before .before .before .before .match .keys10)
+    (called .delete-clean-pages-after-wal-frame .ensures)
 
 same-length-47 : tie.Need-same-length-47
 same-length-47 c = search needs
@@ -247,7 +302,9 @@ same-length-51 : tie.Need-same-length-51
 same-length-51 c = search needs
 
 returns-11 : tie.Need-returns-11
-returns-11 c = ran-call 10 _ refl (c .before .before .before .before .before .before .before .before .before .before .before .before .before .before .before .before .match .keys11) (c .before .before .before .before .before .before .before .before .before .before .clear .ensures)
+returns-11 c =
+    let called = c .before .before .before .before .before .before .before .before .before .before in
+    ran-call 10 _ refl (called .before .before .before .before .before .before .match .keys11) (called .clear .ensures)
 
 same-length-52 : tie.Need-same-length-52
 same-length-52 c = search needs
@@ -274,7 +331,10 @@ same-length-57 : tie.Need-same-length-57
 same-length-57 c = search needs
 
 returns-14 : tie.Need-returns-14
-returns-14 c = ran-call 13 _ refl (c .before .before .before .before .before .match .keys14) (λ d h. quiet-comes (quiet-write _ _) d (c .before .before .write-record .ensures _ _ d h))
+returns-14 c =
+    let called = c .before .before in
+    ran-call 13 _ refl (called .before .before .before .match .keys14)
+    (λ d h. quiet-comes (quiet-write _ _) d (called .write-record .ensures _ _ d h))
 
 same-length-58 : tie.Need-same-length-58
 same-length-58 c = search needs
@@ -304,15 +364,18 @@ same-length-65 : tie.Need-same-length-65
 same-length-65 c = search needs
 
 returns-16 : tie.Need-returns-16
-returns-16 c = ran-call 15 _ refl (c .before .before .before .before .before .before .before .before .before .before .before .before .before .before .before .before .match .keys16) (c .before .before .before .before .before .before .before .before .before .before .evict .ensures)
+returns-16 c =
+    let called = c .before .before .before .before .before .before .before .before .before .before in
+    ran-call 15 _ refl (called .before .before .before .before .before .before .match .keys16) (called .evict .ensures)
 
 returns-17 : tie.Need-returns-17
 returns-17 c = ran-call 16 _ refl (c .before .match .keys17) (λ d h. quiet-comes (quiet-switch _) d (c .set-spill-enabled .ensures _ d h))
 
 returns-18 : tie.Need-returns-18
 returns-18 c =
+    let start = start-of (c .before .before) in
     let rest = c .before .match .rest in
-    let above : 17 ≤ c .before .before .before .before .before .before .before .before .before .before .args .asked .operation =
+    let above : 17 ≤ start .args .asked .operation =
     past 16 _ (past 15 _ (past 14 _ (past 13 _ (past 12 _ (past 11 _ (past 10 _ (past 9 _ (past 8 _ (past 7 _ (past 6 _ (past 5 _ (past 4 _ (past 3 _ (past 2 _ (past 1 _ (past 0 _ zero-le (rest .0 .0 .0 .0 .0 .0 .0 .0 .0 .0 .0 .0 .0 .0 .0 .0 .1)) (rest .0 .0 .0 .0 .0 .0 .0 .0 .0 .0 .0 .0 .0 .0 .0 .1)) (rest .0 .0 .0 .0 .0 .0 .0 .0 .0 .0 .0 .0 .0 .0 .1)) (rest .0 .0 .0 .0 .0 .0 .0 .0 .0 .0 .0 .0 .0 .1)) (rest .0 .0 .0 .0 .0 .0 .0 .0 .0 .0 .0 .0 .1)) (rest .0 .0 .0 .0 .0 .0 .0 .0 .0 .0 .0 .1)) (rest .0 .0 .0 .0 .0 .0 .0 .0 .0 .0 .1)) (rest .0 .0 .0 .0 .0 .0 .0 .0 .0 .1)) (rest .0 .0 .0 .0 .0 .0 .0 .0 .1)) (rest .0 .0 .0 .0 .0 .0 .0 .1)) (rest .0 .0 .0 .0 .0 .0 .1)) (rest .0 .0 .0 .0 .0 .1)) (rest .0 .0 .0 .0 .1)) (rest .0 .0 .0 .1)) (rest .0 .0 .1)) (rest .0 .1)) (rest .1) in
     ran-none above refl (c .plain .ensures)
 
