@@ -46,7 +46,13 @@ same-length-7 : tie.Need-same-length-7
 same-length-7 c = search needs
 
 returns-3 : tie.Need-returns-3
-returns-3 c = applies-read (c .before .before .before .before .before .before .before .before .before .before .before .before .before .before .before .before .before .before .before .before .before .before .before .before .before .before .before .before .if1 .left) (c .before .before .before .before .before .before .before .before .before .before .before .before .before .before .before .before .before .before .before .before .before .before .before .before .before .before .before .if2 .left) (c .before .before .before .before .before .before .before .before .before .before .before .before .before .before .before .before .before .before .before .before .read-head .ensures) (c .before .before .before .before .before .before .before .before .before .before .before .before .before .before .before .before .before .before .before .apply .ensures) (c .before .before .before .before .before .before .before .put-answered .ensures) (c .before .before .put-answer .ensures)
+returns-3 c =
+    let told = c .before .before .before .before .before .before .before in
+    let applied = told .before .before .before .before .before .before .before .before .before .before .before .before in
+    let read = applied .before in
+    let fits = read .before .before .before .before .before .before .before in
+    applies-read (fits .before .if1 .left) (fits .if2 .left) (read .read-head .ensures) (applied .apply .ensures)
+    (told .put-answered .ensures) (c .before .before .put-answer .ensures)
 
 pub pc-apply-spec : {M : Type 1} → statement M
 pc-apply-spec =

@@ -30,7 +30,9 @@ same-length-5 : tie.Need-same-length-5
 same-length-5 c = search needs
 
 returns-2 : tie.Need-returns-2
-returns-2 c = makes _ (c .before .before .before .before .before .before .before .before .before .before .before .before .before .before .before .before .before .if1 .left) (c .before .before .before .before .before .before .before .before .before .before .before .before .create .ensures) (c .before .before .put-created .ensures)
+returns-2 c =
+    let created = c .before .before .before .before .before .before .before .before .before .before .before .before in
+    makes _ (created .before .before .before .before .before .if1 .left) (created .create .ensures) (c .before .before .put-created .ensures)
 
 pub pc-create-spec : {M : Type 1} → statement M
 pc-create-spec =
