@@ -15,8 +15,25 @@ abbrev μ-loop : tie.MeasureT-loop
 μ-loop records slots₀ by-key₀ by-handle₀ marks₀ list₀ count now₀ i₀ slots by-key by-handle marks list now i =
     count - i
 
+-- from each place back to the one before it
+abbrev ran-of : tie.After-slice-known10 Inv-loop μ-loop → tie.After-run-one Inv-loop μ-loop
+ran-of c = c .before .before .before .before .before .before .before .before .before .before
+
+abbrev turn-of : tie.After-run-one Inv-loop μ-loop → tie.In-loop Inv-loop μ-loop
+turn-of c = c .before .before .before .before .before .before .before
+
 loop-holds : tie.Need-loop-holds Inv-loop μ-loop
-loop-holds c = record { sound = c .before .before .before .before .before .before .pre; slots-length = refl; by-key-length = refl; by-handle-length = refl; marks-length = refl; list-length = refl; done = omega arith }
+loop-holds c =
+    let start = c .before .before .before .before .before .before in
+    record {
+      sound = start .pre;
+      slots-length = refl;
+      by-key-length = refl;
+      by-handle-length = refl;
+      marks-length = refl;
+      list-length = refl;
+      done = omega arith;
+    }
 
 mul-from : tie.Need-mul-from Inv-loop μ-loop
 mul-from c = search needs
@@ -37,22 +54,28 @@ run-one-requires : tie.Need-run-one-requires Inv-loop μ-loop
 run-one-requires c κs = c .before .before .before .before .before .before .before .loop .inv .sound
 
 add-i : tie.Need-add-i Inv-loop μ-loop
-add-i c = omega (arith, (c .before .before .before .before .before .before .before .before .before .before .before .before .before .before .before .before .before), c .before .before .before .before .before .before .before .before .before .before .before .before .before .before .before .before .before .before .before .before .before .before .before .before .before .good)
+add-i c =
+    let turn = turn-of (ran-of c) in
+    let start = turn .before .before .before .before .before .before .before .before in
+    omega (arith, turn, start .good)
 
 loop-less : tie.Need-loop-less Inv-loop μ-loop
 loop-less c = search needs
 
 loop-again : tie.Need-loop-again Inv-loop μ-loop
-loop-again c = let inv = c .before .before .before .before .before .before .before .before .before .before .before .before .before .before .before .before .before .before .loop .inv in
-    let kept = c .before .before .before .before .before .before .before .before .before .before .run-one .kept .1 in
+loop-again c =
+    let ran = ran-of c in
+    let turn = turn-of ran in
+    let inv = turn .before .loop .inv in
+    let kept = ran .run-one .kept .1 in
     record {
-      sound = c .before .before .before .before .before .before .before .before .before .before .run-one .ensures;
+      sound = ran .run-one .ensures;
       slots-length = kept .0 ∙ inv .slots-length;
       by-key-length = kept .1 .0 ∙ inv .by-key-length;
       by-handle-length = kept .1 .1 .0 ∙ inv .by-handle-length;
       marks-length = kept .1 .1 .1 .0 ∙ inv .marks-length;
       list-length = kept .1 .1 .1 .1 .0 ∙ inv .list-length;
-      done = omega (arith, (c .before .before .before .before .before .before .before .before .before .before .before .before .before .before .before .before .before));
+      done = omega (arith, turn);
     }
 
 same-length : tie.Need-same-length Inv-loop μ-loop
