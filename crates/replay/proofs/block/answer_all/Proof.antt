@@ -12,6 +12,16 @@ Inv-loop block count slots₀ by-key₀ by-handle₀ marks₀ list₀ out₀ sta
 abbrev μ-loop : tie.MeasureT-loop
 μ-loop block count slots₀ by-key₀ by-handle₀ marks₀ list₀ out₀ states left₀ at₀ i₀ slots by-key by-handle marks list out left at i = count - i
 
+-- from each place back to the one before it
+abbrev applied-of : tie.After-put-lines Inv-loop μ-loop → tie.After-apply Inv-loop μ-loop
+applied-of c = c .before .before .before .before .before .before .before .before
+
+abbrev placed-of : tie.After-apply Inv-loop μ-loop → tie.After-next-place Inv-loop μ-loop
+placed-of c = c .before .before .before .before .before .before .before .before .before
+
+abbrev turn-of : tie.After-next-place Inv-loop μ-loop → tie.In-loop Inv-loop μ-loop
+turn-of c = c .before .before
+
 loop-holds : tie.Need-loop-holds Inv-loop μ-loop
 loop-holds c = search needs
 
@@ -43,17 +53,22 @@ put-lines-requires : tie.Need-put-lines-requires Inv-loop μ-loop
 put-lines-requires c κs = search needs
 
 add-i : tie.Need-add-i Inv-loop μ-loop
-add-i c = omega (arith, c .before .before .before .before .before .before .before .before .before .before .before .before .before .before .before .before .before .before .before .loop-test .taken, (c .before .before .before .before .before .before .before .before .before .before .before .before .before .before .before .before .before .before .before .before .before .before))
+add-i c =
+    let turn = turn-of (placed-of (applied-of c)) in
+    let start = turn .before .before .before in
+    omega (arith, turn .loop-test .taken, start)
 
 loop-less : tie.Need-loop-less Inv-loop μ-loop
-loop-less c = omega (arith, c .before .before .before .before .before .before .before .before .before .before .before .before .before .before .before .before .before .before .before .loop-test .taken)
+loop-less c = omega (arith, turn-of (placed-of (applied-of c)) .loop-test .taken)
 
 loop-again : tie.Need-loop-again Inv-loop μ-loop
-loop-again c = (
-  omega (arith, c .before .before .before .before .before .before .before .before .before .before .before .before .before .before .before .before .before .before .before .loop-test .taken),
-  c .before .before .before .before .before .before .before .before .before .before .before .before .before .before .before .before .before .before .before .before .loop .inv .1,
-  omega (arith, c .put-lines .ensures, c .before .before .before .before .before .before .before .before .before .before .before .before .before .before .before .before .before .next-place .ensures),
-)
+loop-again c =
+    let placed = placed-of (applied-of c) in
+    let turn = turn-of placed in (
+      omega (arith, turn .loop-test .taken),
+      turn .before .loop .inv .1,
+      omega (arith, c .put-lines .ensures, placed .next-place .ensures),
+    )
 
 returns-2 : tie.Need-returns-2 Inv-loop μ-loop
 returns-2 c = search needs
