@@ -1,7 +1,7 @@
 -- What the moves ask of the memory and what they make of it. Each asks for memory that holds a cache, and then says, of every
 -- cache that it holds, which cache it holds afterwards: a change that the model has a word for.
 use mathlib.Core.Path.{_≡_}
-use mathlib.Core.Bool.{Bool, false}
+use mathlib.Core.Bool.{true, false}
 use mathlib.Core.List.{List}
 use mathlib.Core.Logic.{_≢_}
 use mathlib.Core.Option.{none, some}
@@ -12,6 +12,9 @@ use Rattle.page.specs.declared.entry.PageCacheEntry.{PageCacheEntry}
 use Rattle.page.specs.declared.record.PageRecord.{PageRecord}
 use Rattle.pool.specs.Slots.{entries}
 use Rattle.ring_links.specs.Links.{Linkable}
+use Rattle.order.specs.Names.{names}
+use Rattle.order.specs.Index.{Miss}
+use Rattle.order.specs.declared.search.By.the-variants.{Key, Handle}
 use Rattle.model.specs.Cache.{Cache, heldIn, newPage, enter, leave, touch, rewrite, replace}
 use Rattle.model.specs.Row.{Entry, Row, Each, find}
 use Rattle.model.specs.Tests.{underOther}
@@ -19,6 +22,9 @@ use Rattle.memory.specs.Memory.{Memory}
 use Rattle.memory.specs.Holds.{Holds}
 use Rattle.moves.specs.declared.finding.Seat.{Seat}
 use Rattle.moves.specs.declared.finding.Seat.the-variants.{At, Absent}
+use Rattle.moves.specs.declared.finding.HandleSeat.{HandleSeat}
+use Rattle.moves.specs.declared.finding.HandleSeat.the-variants.{Elsewhere, UnderKey, Nowhere}
+use Rattle.moves.specs.declared.finding.Gaps.{Gaps}
 
 -- the memory whose parts these are
 abbrev pub memoryOf : (slots by-key by-handle marks : List ℕ) → Memory
@@ -38,19 +44,42 @@ pub record KeyAt (row : Row) (key s : ℕ) : Type 0 where
 -- the answer is the slot of the entry under the key, or that there is none
 abbrev pub SeatIs : Row → ℕ → Seat → Type 0
 SeatIs row key (At s) = KeyAt row key (s .0)
-SeatIs row key Absent = find key row ≡ none
+SeatIs row key (Absent gap) = find key row ≡ none
+
+-- the gap that an absent key would go into
+abbrev pub KeyGap : (slots by-key : List ℕ) (held key gap : ℕ) → Type 0
+KeyGap slots by-key held key gap = Miss (names Key (entries slots)) by-key held key gap
+
+abbrev pub SeatGap : (slots by-key : List ℕ) (held key : ℕ) → Seat → Type 0
+SeatGap slots by-key held key (At s) = Unit
+SeatGap slots by-key held key (Absent gap) = KeyGap slots by-key held key gap
 
 -- the answer is right for every cache of `held` pages that a memory with these slots and this index by key holds
-abbrev pub Seats : (by-key slots : List ℕ) (held key : ℕ) → Seat → Type 0
-Seats by-key slots held key r =
-    (by-handle marks : List ℕ) (head : PageCache) (c : Cache) → Holds (memoryOf slots by-key by-handle marks) head c → head .held ≡ held
-    → SeatIs (c .row) key r
+pub record Seats (by-key slots : List ℕ) (held key : ℕ) (r : Seat) : Type 0 where
+  pub seat : (by-handle marks : List ℕ) (head : PageCache) (c : Cache) → Holds (memoryOf slots by-key by-handle marks) head c → head .held ≡ held
+      → SeatIs (c .row) key r
+  pub gap : SeatGap slots by-key held key r
 
--- the same for an index by handle: the answer is that of the test for code 12
-abbrev pub TestsHandle : (by-handle slots : List ℕ) (held key handle : ℕ) → Bool → Type 0
-TestsHandle by-handle slots held key handle r =
-    (by-key marks : List ℕ) (head : PageCache) (c : Cache) → Holds (memoryOf slots by-key by-handle marks) head c → head .held ≡ held
-    → r ≡ underOther key handle (c .row)
+-- the handle stands under another key, by the test for code 12; or under none but this one, whose entry is at slot s; or nowhere
+abbrev pub HandleIs : Row → (key handle : ℕ) → HandleSeat → Type 0
+HandleIs row key handle Elsewhere = underOther key handle row ≡ true
+HandleIs row key handle (UnderKey s) = KeyAt row key (s .0) × (underOther key handle row ≡ false)
+HandleIs row key handle (Nowhere gap) = Each (λ x. handle ≢ x .page .handle) row
+
+-- the gap that an absent handle would go into
+abbrev pub HandleGap : (slots by-handle : List ℕ) (held handle gap : ℕ) → Type 0
+HandleGap slots by-handle held handle gap = Miss (names Handle (entries slots)) by-handle held handle gap
+
+abbrev pub HandleSeatGap : (slots by-handle : List ℕ) (held handle : ℕ) → HandleSeat → Type 0
+HandleSeatGap slots by-handle held handle Elsewhere = Unit
+HandleSeatGap slots by-handle held handle (UnderKey s) = Unit
+HandleSeatGap slots by-handle held handle (Nowhere gap) = HandleGap slots by-handle held handle gap
+
+-- the same for an index by handle
+pub record SeatsHandle (by-handle slots : List ℕ) (held key handle : ℕ) (r : HandleSeat) : Type 0 where
+  pub seat : (by-key marks : List ℕ) (head : PageCache) (c : Cache) → Holds (memoryOf slots by-key by-handle marks) head c → head .held ≡ held
+      → HandleIs (c .row) key handle r
+  pub gap : HandleSeatGap slots by-handle held handle r
 
 -- ── removal ──────────────────────────────────────────────────────────────────
 -- the memory holds a cache with an entry at slot s
@@ -71,11 +100,23 @@ pub record NewNames (key handle : ℕ) (row : Row) : Type 0 where
   pub keys : Each (λ x. key ≢ x .page .key) row
   pub handles : Each (λ x. handle ≢ x .page .handle) row
 
--- the memory holds a cache to which the key and the handle are new, and which has a slot to spare; the record is good
-pub record Placeable (m : Memory) (head : PageCache) (key handle : ℕ) (page : PageRecord) : Type 0 where
+-- with some marks the memory holds a cache to which the key and the handle are new
+pub record Unseated (slots by-key by-handle : List ℕ) (head : PageCache) (key handle : ℕ) : Type 0 where
+  pub marks : List ℕ
+  pub cache : Cache
+  pub holds : Holds (memoryOf slots by-key by-handle marks) head cache
+  pub new : NewNames key handle (cache .row)
+
+-- the gaps that they go into
+pub record GapsOf (slots by-key by-handle : List ℕ) (held key handle : ℕ) (gaps : Gaps) : Type 0 where
+  pub of-key : KeyGap slots by-key held key (gaps .by-key)
+  pub of-handle : HandleGap slots by-handle held handle (gaps .by-handle)
+
+-- the memory holds a cache which has a slot to spare, and the gaps are those of the key and the handle; the record is good
+pub record Placeable (m : Memory) (head : PageCache) (gaps : Gaps) (key handle : ℕ) (page : PageRecord) : Type 0 where
   pub cache : Cache
   pub holds : Holds m head cache
-  pub new : NewNames key handle (cache .row)
+  pub right : GapsOf (m .slots) (m .by-key) (m .by-handle) (head .held) key handle gaps
   pub room : heldIn cache < cache .size
   pub flags : page .flags ≤ 31
 

@@ -10,7 +10,8 @@
 // Before them comes a search, and those that change the head follow the estimate's rule:
 //
 //     finding.rt    seat_of            find         where a key stands
-//                   handle_elsewhere   underOther   whether a handle stands under another key
+//                   seat_of_handle     underOther   where a handle stands, and whether under another key
+//                   find_gaps                       where a new key and a new handle go
 //     estimate.rt   the estimate's rule
 //
 // Callers may rely on this: if the memory holds a cache before the move, it holds the changed cache after it, with the head
@@ -34,8 +35,11 @@ pub use estimate::count_in;
 pub use estimate::count_out;
 pub use estimate::count_over;
 pub use estimate::count_up;
+pub use finding::Gaps;
+pub use finding::HandleSeat;
 pub use finding::Seat;
-pub use finding::handle_elsewhere;
+pub use finding::find_gaps;
 pub use finding::seat_of;
+pub use finding::seat_of_handle;
 pub use placing::place;
 pub use removing::remove_at_slot;

@@ -1,6 +1,6 @@
 // A new page comes (rule 1): at the lowest free slot, into the ring directly after the hand, into both indexes and the estimate.
 use crate::estimate::count_in;
-use order::By;
+use crate::finding::Gaps;
 use page::PageCache;
 use page::PageCacheEntry;
 use page::PageCacheKey;
@@ -15,26 +15,27 @@ ghost use Rattle.memory.specs.Memory.{memory, memories};
 ghost use Rattle.moves.specs.Heads.{headWith, seatedAt};
 ghost use Rattle.moves.specs.Moves.{Placeable, Places, Seatable};
 
-// Places a page that was never touched. A first one is the hand, another goes directly after the hand. The answer is the
-// head after it.
+// Places a page that was never touched, with its names in their gaps. A first one is the hand, another goes directly after the
+// hand. The answer is the head after it.
 pub fn place(
     slots: &mut [u64],
     by_key: &mut [u32],
     by_handle: &mut [u32],
     marks: &mut [u64],
     head: PageCache,
+    gaps: Gaps,
     key: PageCacheKey,
     handle: PageHandle,
     page: PageRecord,
 ) -> PageCache
-    requires { ⌜ Placeable (memory slots «by_key» «by_handle» marks) head (key .0) (handle .0) page ⌝ }
+    requires { ⌜ Placeable (memory slots «by_key» «by_handle» marks) head gaps (key .0) (handle .0) page ⌝ }
     ensures { λ r. let m = memories slots «by_key» «by_handle» marks in ⌜ Places (m .entry) head (key .0) (handle .0) page (m .exit) r ⌝ }
 {
     let n = head.held as usize;
     let s = free_marks::lowest_free(marks);
     free_marks::mark_held(marks, s);
-    order::enlist(by_key, slots, By::Key, n, key.0, s);
-    order::enlist(by_handle, slots, By::Handle, n, handle.0, s);
+    order::enlist_at(by_key, n, gaps.by_key, s);
+    order::enlist_at(by_handle, n, gaps.by_handle, s);
     let e = PageCacheEntry::new(key, handle, page);
     seat(slots, head, s, e);
     let estimate = count_in(head.estimate, key, page);

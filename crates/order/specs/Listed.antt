@@ -2,7 +2,7 @@
 use mathlib.Core.Path.{_≡_}
 use mathlib.Core.Bool.{true}
 use mathlib.Core.List.{List, _∷_, _++_}
-use Prim.Native.Nat.{ℕ, _<_}
+use Prim.Native.Nat.{ℕ, _≤_, _<_}
 use lib.ListN.{length, getD, take, set}
 use Rattle.ring_links.specs.Ring.{has, Out, Apart}
 use Rattle.order.specs.Index.{Index, Miss}
@@ -21,6 +21,11 @@ pub record Fresh (col seats : List ℕ) (s : ℕ) : Type 0 where
 -- no seat has the name x
 abbrev pub Absent : List ℕ → List ℕ → ℕ → Type 0
 Absent col seats x = (k : ℕ) → has k seats ≡ true → getD col k 0 ≡ x → ⊥
+
+-- `at` is a place that x can go to: the gap of x, if the order lists n seats and none has that name
+pub record GapFor (col order : List ℕ) (n x at : ℕ) : Type 0 where
+  pub place : at ≤ n
+  pub miss : (seats : List ℕ) → Listed col order seats → length seats ≡ n → Absent col seats x → Miss col order n x at
 
 -- an index of n places that has room for one more
 pub record HasRoom (col order : List ℕ) (n : ℕ) : Type 0 where

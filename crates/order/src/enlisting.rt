@@ -3,6 +3,7 @@
 use crate::search::By;
 use crate::search::Spot;
 use crate::search::find;
+use crate::search::gap;
 use crate::shift::insert_at;
 use crate::shift::remove_at;
 use page::Slot;
@@ -16,9 +17,7 @@ pub fn enlist(order: &mut [u32], slots: &[u64], by: By, n: usize, x: u32, s: Slo
     requires { ⌜ HasRoom (names by (entries (now slots))) (now order) n ⌝ }
     ensures { λ _. ⌜ Enlisted (names by (entries (now (slots .entry)))) (now (order .entry)) n x (s .0) (now (order .exit)) ⌝ }
 {
-    let Spot::Gap(at) = find(order, slots, by, n, x) else {
-        return;
-    };
+    let at = gap(order, slots, by, n, x);
     enlist_at(order, n, at, s);
 }
 

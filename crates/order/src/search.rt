@@ -6,6 +6,7 @@ ghost use lib.ListN.{length, getD};
 ghost use Rattle.pool.specs.Slots.{entries};
 ghost use Rattle.order.specs.Names.{names};
 ghost use Rattle.order.specs.Index.{Index, Found};
+ghost use Rattle.order.specs.Listed.{GapFor};
 
 // The name that an index goes by.
 pub enum By {
@@ -55,4 +56,15 @@ pub fn find(order: &[u32], slots: &[u64], by: By, n: usize, x: u32) -> Spot
         }
     }
     Spot::Gap(lo)
+}
+
+// The gap that a name goes into which no slot of the index has.
+pub fn gap(order: &[u32], slots: &[u64], by: By, n: usize, x: u32) -> usize
+    requires { ⌜ Index (names by (entries (now slots))) (now order) n ⌝ }
+    ensures { λ r. ⌜ GapFor (names by (entries (now (slots .entry)))) (now (order .entry)) n x r ⌝ }
+{
+    match find(order, slots, by, n, x) {
+        Spot::Here(at) => at,
+        Spot::Gap(at) => at,
+    }
 }
