@@ -1,5 +1,5 @@
 -- The memory with a new page. Each part takes the lowest free slot in by a law of its own: the ring opens after the hand, each
--- index lists it, its mark is cleared, and the head counts it. So the memory holds the row that the page has entered.
+-- index lists it at its gap, its mark is cleared, and the head counts it. So the memory holds the row that the page has entered.
 use mathlib.Core.Path.{_≡_, refl, sym, ap, _∙_, subst}
 use mathlib.Core.Bool.{Bool, true, false, cond}
 use mathlib.Core.List.{List, [], _∷_}
@@ -23,10 +23,10 @@ use Rattle.ring_links.specs.Links.{RingOf, Linkable, linkedFirst, linkedAfter}
 use Rattle.free_marks.specs.Marks.{MarkedAs, SomeFree, LowestFree}
 use Rattle.ring_links.proofs.Columns.{linkable}
 use Rattle.order.specs.Names.{nameOf, names}
-use Rattle.order.specs.Listed.{Listed, Fresh, HasRoom, Enlisted, Absent}
+use Rattle.order.specs.Index.{Miss, CanInsert}
+use Rattle.order.specs.Listed.{Listed, Fresh, EnlistedAt}
 use Rattle.order.specs.declared.search.By.{By}
 use Rattle.order.specs.declared.search.By.the-variants.{Key, Handle}
-use Rattle.order.proofs.Names.{name-at}
 use Rattle.order.proofs.Listed.{listed-seats}
 use Rattle.model.specs.Cache.{Cache, heldIn, lowestFree, enterRow, newPage, enter}
 use Rattle.model.specs.Row.{Entry, Row, Each}
@@ -37,11 +37,11 @@ use Rattle.memory.proofs.OnceKept.{holds-held}
 use Rattle.memory.proofs.Columns.{Written, written-first, written-after, names-written, bare-here, bare-else, row-else}
 use Rattle.memory.proofs.Seats.{newSeats, has-new, seated-first, seated-after}
 use Rattle.memory.proofs.Marks.{marked-seats, marked-in, mark-inside, some-free, lowest-inside, lowest-out, lowest-is}
-use Rattle.memory.proofs.Rows.{each-seat}
-use Rattle.memory.proofs.Standing.{holds-size, holds-by-key, holds-by-handle}
+use Rattle.memory.proofs.Standing.{holds-size}
+use Rattle.moves.specs.declared.finding.Gaps.{Gaps}
 use Rattle.moves.specs.Counting.{countedIn}
 use Rattle.moves.specs.Heads.{headWith, seatedAt}
-use Rattle.moves.specs.Moves.{NewNames, Seatable}
+use Rattle.moves.specs.Moves.{GapsOf, Seatable}
 
 -- ── a new seat ───────────────────────────────────────────────────────────────
 length-new : (s : ℕ) (seats : List ℕ) → length (newSeats s seats) ≡ suc (length seats)
@@ -84,7 +84,7 @@ module _ {es : List PageCacheEntry} {s : ℕ} {e : PageCacheEntry} {es′ : List
       λ i. first i ∷ sym new-entry i ∷ rest i
 
 -- ── what the calls leave, one after another ──────────────────────────────────
-pub record PutTogether (m : Memory) (head : PageCache) (key : PageCacheKey) (handle : PageHandle) (page : PageRecord)
+pub record PutTogether (m : Memory) (head : PageCache) (gaps : Gaps) (key : PageCacheKey) (handle : PageHandle) (page : PageRecord)
     (m′ : Memory) (head′ : PageCache) : Type 0 where
   pub slot : Slot
   pub estimate : ℕ
@@ -94,8 +94,8 @@ pub record PutTogether (m : Memory) (head : PageCache) (key : PageCacheKey) (han
   pub handles-kept : length (m′ .by-handle) ≡ length (m .by-handle)
   pub lowest : LowestFree (m .marks) (slot .0)
   pub taken : MarkedAs 0 (m .marks) (slot .0) (m′ .marks)
-  pub by-key : Enlisted (names Key (entries (m .slots))) (m .by-key) (head .held) (key .0) (slot .0) (m′ .by-key)
-  pub by-handle : Enlisted (names Handle (entries (m .slots))) (m .by-handle) (head .held) (handle .0) (slot .0) (m′ .by-handle)
+  pub by-key : EnlistedAt (m .by-key) (head .held) (gaps .key) (slot .0) (m′ .by-key)
+  pub by-handle : EnlistedAt (m .by-handle) (head .held) (gaps .handle) (slot .0) (m′ .by-handle)
   pub made : entry ≡ newEntry key handle page
   pub seated : entries (m′ .slots) ≡ seatedAt (entries (m .slots)) head (slot .0) entry
   pub counted : estimate ≡ countedIn (key .0) page (head .estimate)
@@ -111,14 +111,15 @@ module _ {m : Memory} {head : PageCache} {c : Cache} (H : Holds m head c) where
     pub spare-mark : SomeFree (m .marks)
     spare-mark = some-free es (H .marked) (H .limits .most) (H .lengths .marks) (omega (arith, holds-held H, H .headed .held))
 
-    pub by-key-room : HasRoom (names Key (entries (m .slots))) (m .by-key) (head .held)
-    by-key-room = record { index = holds-by-key H; room = omega (arith, holds-held H, H .lengths .by-key) }
-
-    pub by-handle-room : HasRoom (names Handle (entries (m .slots))) (m .by-handle) (head .held)
-    by-handle-room = record { index = holds-by-handle H; room = omega (arith, holds-held H, H .lengths .by-handle) }
-
     pub held-small : head .held < maxSlots
     held-small = omega (arith, holds-held H, H .limits .most)
+
+    module _ {gaps : Gaps} {key handle : ℕ} (right : GapsOf (m .slots) (m .by-key) (m .by-handle) (head .held) key handle gaps) where
+      pub by-key-room : CanInsert (m .by-key) (head .held) (gaps .key)
+      by-key-room = record { place = right .of-key .within; room = omega (arith, holds-held H, H .lengths .by-key) }
+
+      pub by-handle-room : CanInsert (m .by-handle) (head .held) (gaps .handle)
+      by-handle-room = record { place = right .of-handle .within; room = omega (arith, holds-held H, H .lengths .by-handle) }
 
   module _ {s : ℕ} (lowest : LowestFree (m .marks) s) where
     free-inside : s < length es
@@ -136,8 +137,9 @@ module _ {m : Memory} {head : PageCache} {c : Cache} (H : Holds m head c) where
         go (hand ∷ seats) ring q f some = rw f (linkable ring free-inside)
 
   -- ── what the code leaves ───────────────────────────────────────────────────
-  module _ {key : PageCacheKey} {handle : PageHandle} {page : PageRecord} {m′ : Memory} {head′ : PageCache}
-      (new : NewNames (key .0) (handle .0) (c .row)) (flags : page .flags ≤ 31) (t : PutTogether m head key handle page m′ head′) where
+  module _ {gaps : Gaps} {key : PageCacheKey} {handle : PageHandle} {page : PageRecord} {m′ : Memory} {head′ : PageCache}
+      (right : GapsOf (m .slots) (m .by-key) (m .by-handle) (head .held) (key .0) (handle .0) gaps) (flags : page .flags ≤ 31)
+      (t : PutTogether m head gaps key handle page m′ head′) where
     abbrev s : ℕ
     s = t .slot .0
 
@@ -159,20 +161,13 @@ module _ {m : Memory} {head : PageCache} {c : Cache} (H : Holds m head c) where
     lowest-row : s ≡ lowestFree (c .row)
     lowest-row = lowest-is es (H .marked) (t .lowest) ∙ ap lowestFree (sym (H .row))
 
-    -- no seat has the name yet
-    absent : (by : By) → Absent (names by es) (H .seats) (nameOf by e)
-    absent Key k h q =
-        each-seat (λ x. key .0 ≢ x .page .key) es (H .seats) (rw (H .row) at (new .keys)) k h (sym q ∙ name-at Key es k)
-    absent Handle k h q =
-        each-seat (λ x. handle .0 ≢ x .page .handle) es (H .seats) (rw (H .row) at (new .handles)) k h (sym q ∙ name-at Handle es k)
-
-    listed-in : (by : By) {order order′ : List ℕ} → Listed (names by es) order (H .seats)
-        → Enlisted (names by es) order (head .held) (nameOf by e) s order′
+    listed-in : (by : By) {order order′ : List ℕ} {gap : ℕ} → Listed (names by es) order (H .seats)
+        → Miss (names by es) order (head .held) (nameOf by e) gap → EnlistedAt order (head .held) gap s order′
         → Listed (names by (entries (m′ .slots))) order′ (newSeats s (H .seats))
-    listed-in by listed enlisted =
+    listed-in by listed miss enlisted =
         let fresh : Fresh (names by es) (H .seats) s = record { inside = simp length-map inside; out = out } in
         rw (entries-are, names-written w by)
-        (listed-seats (enlisted (H .seats) listed (sym (H .headed .held)) fresh (absent by)) (length-new s (H .seats)) (λ k. has-new k s (H .seats)))
+        (listed-seats (enlisted _ (H .seats) _ listed (sym (H .headed .held)) fresh miss) (length-new s (H .seats)) (λ k. has-new k s (H .seats)))
 
     pub placed : Holds m′ head′ (enter (newPage (key .0) (handle .0) page c) c)
     placed = record {
@@ -188,8 +183,8 @@ module _ {m : Memory} {head : PageCache} {c : Cache} (H : Holds m head c) where
           rw entries-are
           (ap {B = Row} (λ (k : ℕ). enterRow (seen k e .page) (c .row)) (sym lowest-row) ∙ ap {B = Row} (enterRow (seen s e .page)) (H .row)
           ∙ row-with w inside refl (H .seats) out);
-      keys = listed-in Key (H .keys) (t .by-key);
-      handles = listed-in Handle (H .handles) (t .by-handle);
+      keys = listed-in Key (H .keys) (right .of-key) (t .by-key);
+      handles = listed-in Handle (H .handles) (right .of-handle) (t .by-handle);
       marked = marked-seats (marked-in (lowest-inside es (H .marked) (t .lowest)) (H .marked) (t .taken)) (λ k. has-new k s (H .seats));
       headed = subst (λ (h : PageCache). Headed h (enter (newPage (key .0) (handle .0) page c) c) (newSeats s (H .seats)))
           (sym (t .head-is)) (record {

@@ -15,7 +15,8 @@ use Rattle.page.specs.declared.entry.PageCacheEntry.{PageCacheEntry}
 use Rattle.pool.specs.Slots.{blank, entries}
 use Rattle.ring_links.specs.Ring.{has}
 use Rattle.order.specs.Names.{names}
-use Rattle.order.specs.Index.{Hit, Miss}
+use Rattle.order.specs.Index.{Hit}
+use Rattle.order.specs.Listed.{Absent, GapFor}
 use Rattle.order.specs.declared.search.By.the-variants.{Key, Handle}
 use Rattle.order.proofs.Names.{name-at}
 use Rattle.order.proofs.Listed.{hit-seat, hit-is, miss-absent}
@@ -30,7 +31,8 @@ use Rattle.memory.specs.Memory.{Memory}
 use Rattle.memory.specs.Holds.{seen, rowOf, Holds}
 use Rattle.memory.proofs.Rows.{each-seat, seat-each}
 use Rattle.memory.proofs.Standing.{seat-found}
-use Rattle.moves.specs.Moves.{KeyAt}
+use Rattle.moves.specs.declared.finding.Gaps.{Gaps}
+use Rattle.moves.specs.Moves.{KeyAt, KeyGap, HandleGap, NewNames, GapsOf}
 
 -- ── a handle under another key ───────────────────────────────────────────────
 module _ (key handle : ℕ) where
@@ -64,54 +66,86 @@ module _ {m : Memory} {head : PageCache} {c : Cache} {n : ℕ} (H : Holds m head
   seats-held : length (H .seats) ≡ n
   seats-held = sym (H .headed .held) ∙ held
 
-  pub key-hit : {key at : ℕ} → Hit (names Key (entries (m .slots))) (m .by-key) n key at → KeyAt (c .row) key (getD (m .by-key) at 0)
-  key-hit {key} {at} hit =
-      let s : ℕ = getD (m .by-key) at 0 in
-      let named : getD es s blank .key .0 ≡ key = sym (name-at Key es s) ∙ hit .same in
-      record {
-        entry = seen s (getD es s blank);
-        stands = record {
-          found = subst (λ (k : ℕ). find k (c .row) ≡ some (seen s (getD es s blank))) named (seat-found H s (hit-seat (H .keys) seats-held hit));
-          slot = refl;
-        };
-      }
+  -- the entry at a seat stands under its key
+  seat-key : {key : ℕ} (s : ℕ) → has s (H .seats) ≡ true → getD es s blank .key .0 ≡ key → KeyAt (c .row) key s
+  seat-key s seat named = record {
+    entry = seen s (getD es s blank);
+    stands = record { found = subst (λ (k : ℕ). find k (c .row) ≡ some (seen s (getD es s blank))) named (seat-found H s seat); slot = refl };
+  }
 
-  pub key-miss : {key at : ℕ} → Miss (names Key (entries (m .slots))) (m .by-key) n key at → find key (c .row) ≡ none
-  key-miss {key} miss =
-      none-find key (c .row)
-      (subst (Each (λ x. key ≢ x .page .key)) (sym (H .row))
-      (seat-each (λ x. key ≢ x .page .key) es (H .seats) (λ k h q. miss-absent (H .keys) seats-held miss k h (name-at Key es k ∙ sym q))))
+  pub key-hit : {key at : ℕ} → Hit (names Key (entries (m .slots))) (m .by-key) n key at → KeyAt (c .row) key (getD (m .by-key) at 0)
+  key-hit {key} {at} hit = seat-key _ (hit-seat (H .keys) seats-held hit) (sym (name-at Key es (getD (m .by-key) at 0)) ∙ hit .same)
+
+  -- a name that has a gap is new
+  key-new : {key gap : ℕ} → KeyGap (m .slots) (m .by-key) n key gap → Each (λ x. key ≢ x .page .key) (c .row)
+  key-new {key} miss =
+      subst (Each (λ x. key ≢ x .page .key)) (sym (H .row))
+      (seat-each (λ x. key ≢ x .page .key) es (H .seats) (λ k h q. miss-absent (H .keys) seats-held miss k h (name-at Key es k ∙ sym q)))
+
+  pub handle-new : {handle gap : ℕ} → HandleGap (m .slots) (m .by-handle) n handle gap → Each (λ x. handle ≢ x .page .handle) (c .row)
+  handle-new {handle} miss =
+      subst (Each (λ x. handle ≢ x .page .handle)) (sym (H .row))
+      (seat-each (λ x. handle ≢ x .page .handle) es (H .seats) (λ k h q. miss-absent (H .handles) seats-held miss k h (name-at Handle es k ∙ sym q)))
+
+  pub key-miss : {key gap : ℕ} → KeyGap (m .slots) (m .by-key) n key gap → find key (c .row) ≡ none
+  key-miss {key} miss = none-find key (c .row) (key-new miss)
 
   module _ (key handle : ℕ) where
     each-fits : ((k : ℕ) → has k (H .seats) ≡ true → Fits key handle (seen k (getD es k blank))) → underOther key handle (c .row) ≡ false
     each-fits at-seat = each-under key handle (c .row) (rw (H .row) (seat-each (Fits key handle) es (H .seats) at-seat))
 
-    pub handle-miss : {at : ℕ} → Miss (names Handle (entries (m .slots))) (m .by-handle) n handle at → underOther key handle (c .row) ≡ false
+    pub handle-miss : {gap : ℕ} → HandleGap (m .slots) (m .by-handle) n handle gap → underOther key handle (c .row) ≡ false
     handle-miss miss = each-fits (λ k h q. absurd (miss-absent (H .handles) seats-held miss k h (name-at Handle es k ∙ q)))
 
     -- the handle is one entry's alone, so that entry's key tells
-    pub handle-hit : {at found : ℕ} → Hit (names Handle (entries (m .slots))) (m .by-handle) n handle at
-        → found ≡ getD (names Key (entries (m .slots))) (getD (m .by-handle) at 0) 0 → underOther key handle (c .row) ≡ not (eqb found key)
-    handle-hit {at} {found} hit read = go (ℕ-discrete found key)
-      where
-        s : ℕ
-        s = getD (m .by-handle) at 0
+    module _ {at found : ℕ} (hit : Hit (names Handle (entries (m .slots))) (m .by-handle) n handle at)
+        (read : found ≡ getD (names Key (entries (m .slots))) (getD (m .by-handle) at 0) 0) where
+      abbrev s : ℕ
+      s = getD (m .by-handle) at 0
 
-        key-at : found ≡ getD es s blank .key .0
-        key-at = read ∙ name-at Key es s
+      seat : has s (H .seats) ≡ true
+      seat = hit-seat (H .handles) seats-held hit
 
-        fits : found ≡ key → (k : ℕ) → has k (H .seats) ≡ true → Fits key handle (seen k (getD es k blank))
-        fits same k h q =
-            let here : s ≡ k = hit-is (H .handles) seats-held hit h (name-at Handle es k ∙ q) in
-            sym (ap (λ (j : ℕ). getD es j blank .key .0) here) ∙ sym key-at ∙ same
+      key-at : found ≡ getD es s blank .key .0
+      key-at = read ∙ name-at Key es s
 
-        misfits : (b : Bool) → underOther key handle (c .row) ≡ b → found ≢ key → b ≡ true
-        misfits true q other = refl
-        misfits false q other =
-            let all : Each (Fits key handle) (rowOf es (H .seats)) = subst (Each (Fits key handle)) (H .row) (under-each key handle (c .row) q) in
-            let seat : has s (H .seats) ≡ true = hit-seat (H .handles) seats-held hit in
-            absurd (other (key-at ∙ each-seat (Fits key handle) es (H .seats) all s seat (sym (name-at Handle es s) ∙ hit .same)))
+      pub handle-here : found ≡ key → KeyAt (c .row) key (getD (m .by-handle) at 0) × (underOther key handle (c .row) ≡ false)
+      handle-here same = (seat-key s seat (sym key-at ∙ same), each-fits fits)
+        where
+          fits : (k : ℕ) → has k (H .seats) ≡ true → Fits key handle (seen k (getD es k blank))
+          fits k h q =
+              let here : s ≡ k = hit-is (H .handles) seats-held hit h (name-at Handle es k ∙ q) in
+              sym (ap (λ (j : ℕ). getD es j blank .key .0) here) ∙ sym key-at ∙ same
 
-        go : Dec (found ≡ key) → underOther key handle (c .row) ≡ not (eqb found key)
-        go (yes same) = rw (eq-eqb found key same) (each-fits (fits same))
-        go (no other) = rw (ne-eqb found key other) (misfits (underOther key handle (c .row)) refl other)
+      pub handle-elsewhere : found ≢ key → underOther key handle (c .row) ≡ true
+      handle-elsewhere other = go (underOther key handle (c .row)) refl
+        where
+          go : (b : Bool) → underOther key handle (c .row) ≡ b → b ≡ true
+          go true q = refl
+          go false q =
+              let all : Each (Fits key handle) (rowOf es (H .seats)) = subst (Each (Fits key handle)) (H .row) (under-each key handle (c .row) q) in
+              absurd (other (key-at ∙ each-seat (Fits key handle) es (H .seats) all s seat (sym (name-at Handle es s) ∙ hit .same)))
+
+-- ── the gaps of a new page's names ───────────────────────────────────────────
+module _ {m : Memory} {head : PageCache} {c : Cache} (H : Holds m head c) {key handle : ℕ} where
+  pub gaps-new : {gaps : Gaps} → GapsOf (m .slots) (m .by-key) (m .by-handle) (head .held) key handle gaps → NewNames key handle (c .row)
+  gaps-new right = record { keys = key-new H refl (right .of-key); handles = handle-new H refl (right .of-handle) }
+
+  module _ (new : NewNames key handle (c .row)) where
+    -- no seat has the names yet
+    key-absent : Absent (names Key (entries (m .slots))) (H .seats) key
+    key-absent k h q =
+        each-seat (λ x. key ≢ x .page .key) (entries (m .slots)) (H .seats) (rw (H .row) at (new .keys)) k h (sym q ∙ name-at Key (entries (m .slots)) k)
+
+    handle-absent : Absent (names Handle (entries (m .slots))) (H .seats) handle
+    handle-absent k h q =
+        each-seat (λ x. handle ≢ x .page .handle) (entries (m .slots)) (H .seats) (rw (H .row) at (new .handles)) k h
+        (sym q ∙ name-at Handle (entries (m .slots)) k)
+
+    pub gaps-found : {gaps : Gaps} → GapFor (names Key (entries (m .slots))) (m .by-key) (head .held) key (gaps .key)
+        → GapFor (names Handle (entries (m .slots))) (m .by-handle) (head .held) handle (gaps .handle)
+        → GapsOf (m .slots) (m .by-key) (m .by-handle) (head .held) key handle gaps
+    gaps-found by-key by-handle = record {
+      of-key = by-key .miss (H .seats) (H .keys) (sym (H .headed .held)) key-absent;
+      of-handle = by-handle .miss (H .seats) (H .handles) (sym (H .headed .held)) handle-absent;
+    }

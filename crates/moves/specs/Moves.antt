@@ -109,8 +109,8 @@ pub record Unseated (slots by-key by-handle : List ℕ) (head : PageCache) (key 
 
 -- the gaps that they go into
 pub record GapsOf (slots by-key by-handle : List ℕ) (held key handle : ℕ) (gaps : Gaps) : Type 0 where
-  pub of-key : KeyGap slots by-key held key (gaps .by-key)
-  pub of-handle : HandleGap slots by-handle held handle (gaps .by-handle)
+  pub of-key : KeyGap slots by-key held key (gaps .key)
+  pub of-handle : HandleGap slots by-handle held handle (gaps .handle)
 
 -- the memory holds a cache which has a slot to spare, and the gaps are those of the key and the handle; the record is good
 pub record Placeable (m : Memory) (head : PageCache) (gaps : Gaps) (key handle : ℕ) (page : PageRecord) : Type 0 where

@@ -62,8 +62,8 @@ pub fn seat_of_handle(
 
 // The gaps of a key and of a handle.
 pub struct Gaps {
-    pub by_key: usize,
-    pub by_handle: usize,
+    pub key: usize,
+    pub handle: usize,
 }
 
 // The gaps of a key and of a handle that no page has.
@@ -80,7 +80,7 @@ pub fn find_gaps(
 {
     let n = head.held as usize;
     Gaps {
-        by_key: order::gap(by_key, slots, By::Key, n, key.0),
-        by_handle: order::gap(by_handle, slots, By::Handle, n, handle.0),
+        key: order::gap(by_key, slots, By::Key, n, key.0),
+        handle: order::gap(by_handle, slots, By::Handle, n, handle.0),
     }
 }

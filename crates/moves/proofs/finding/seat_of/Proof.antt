@@ -15,33 +15,32 @@ use Rattle.moves.proofs.finding.seat_of.Tie as tie
 abbrev start : tie.After-find → tie.Start
 start c = c .before .before .before
 
+abbrev here : tie.After-known-told → tie.After-find
+here c = c .before .before .before
+
 -- what the search says, once its answer is known
 says : (c : tie.After-find) {spot : Spot} → c .find .result ≡ spot
     → Found (names Key (entries (now (start c .args .slots)))) (now (start c .args .by-key)) (start c .args .held) (start c .args .key .0) spot
 says c e = rw e at (c .find .ensures)
 
-find-requires : tie.Need-find-requires
-find-requires c κs = search needs
+mul-t12 : tie.Need-mul-t12
+mul-t12 c = omega (arith, says (here c) (c .before .at .given .1) .within, start (here c) .pre .fits, start (here c) .good)
 
-enum-known-at : tie.Need-enum-known-at
-enum-known-at c = search needs
-
-enum-told : tie.Need-enum-told
-enum-told c = search needs
+shared-slice-read-t14 : tie.Need-shared-slice-read-t14
+shared-slice-read-t14 c = omega (arith, says (here (c .before)) (c .before .before .at .given .1) .within, start (here (c .before)) .pre .fits)
 
 returns : tie.Need-returns
-returns c = λ by-handle marks head w H held. key-miss H held (says (c .before .before) (c .enum-told .given .1))
-
-mul-t9 : tie.Need-mul-t9
-mul-t9 c = omega (arith, says (c .before .before .before) (c .before .at .given .1) .within, c .before .before .before .before .before .before .pre .fits, c .before .before .before .before .before .before .good)
-
-shared-slice-read-t11 : tie.Need-shared-slice-read-t11
-shared-slice-read-t11 c = omega (arith, says (c .before .before .before .before) (c .before .before .at .given .1) .within, c .before .before .before .before .before .before .before .pre .fits)
+returns c = record {
+  seat = λ by-handle marks head w H held. key-hit H held (says (here (c .before)) (c .before .before .at .given .1));
+  gap = tt;
+}
 
 returns-2 : tie.Need-returns-2
-returns-2 c = λ by-handle marks head w H held. key-hit H held (says (c .before .before .before .before) (c .before .before .at .given .1))
+returns-2 c =
+    let miss = says (c .before .before .before) (c .before .at2 .given .1) in
+    record { seat = λ by-handle marks head w H held. key-miss H held miss; gap = miss }
 
 pub seat-of-spec : {M : Type 1} → statement M
 seat-of-spec =
     tie.close
-    (tie.spec find-requires enum-known-at enum-told returns mul-t9 shared-slice-read-t11 returns-2)
+    (tie.spec (λ c κs. search needs) (λ c. search needs) mul-t12 shared-slice-read-t14 (λ c. search needs) returns returns-2)
