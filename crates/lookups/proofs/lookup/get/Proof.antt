@@ -23,7 +23,7 @@ start c = c .before .before .before .before .before .before .before .before .bef
 -- what the search found
 found : (c : tie.After-s) (w : Cache) → Holds (memory (start c .args .slots) (start c .args .by-key) (start c .args .by-handle) (start c .args .marks)) (start c .args .head) w
     → KeyAt (w .row) (start c .args .key .0) (c .s .given .0 .0 .0)
-found c w H = rw (c .s .given .1) at (c .before .before .seat-of .ensures _ _ _ w H refl)
+found c w H = rw (c .s .given .1) at (c .before .before .seat-of .ensures .seat _ _ _ w H refl)
 
 long : (c : tie.After-s) → start c .args .head .held ≤ length (now (start c .args .list))
 long c = c .before .before .before .before .before .if1 .left
@@ -58,7 +58,7 @@ same-length-2 c = search needs
 returns-2 : tie.Need-returns-2
 returns-2 c = λ w H.
     comes-told (c .plain2 .ensures)
-    (lookup-absent H _ (c .before .before .before .before .before .before .if1 .left) (rw (c .before .enum-told .given .1) at (c .before .before .before .seat-of .ensures _ _ _ w H refl)))
+    (lookup-absent H _ (c .before .before .before .before .before .before .if1 .left) (rw (c .before .enum-told .given .1) at (c .before .before .before .seat-of .ensures .seat _ _ _ w H refl)))
 
 load-requires : tie.Need-load-requires
 load-requires c κs =

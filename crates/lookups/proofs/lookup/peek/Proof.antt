@@ -25,7 +25,7 @@ start c = c .before .before .before .before .before .before
 found : (c : tie.After-at) (by-handle marks : List ℕ) (w : Cache)
     → Holds (memoryOf (now (start c .args .slots)) (now (start c .args .by-key)) by-handle marks) (start c .args .head) w
     → KeyAt (w .row) (start c .args .key .0) (c .at .given .0 .0 .0)
-found c by-handle marks w H = rw (c .at .given .1) at (c .before .before .seat-of .ensures by-handle marks _ w H refl)
+found c by-handle marks w H = rw (c .at .given .1) at (c .before .before .seat-of .ensures .seat by-handle marks _ w H refl)
 
 -- and where
 inside : (c : tie.After-at) → c .at .given .0 .0 .0 < length (entries (now (start c .args .slots)))
@@ -48,7 +48,7 @@ same-length c = search needs
 
 returns : tie.Need-returns
 returns c = λ by-handle marks w H.
-    follows-told (c .plain .ensures) (peek-absent H _ _ (rw (c .before .enum-told .given .1) at (c .before .before .before .seat-of .ensures _ _ _ w H refl)))
+    follows-told (c .plain .ensures) (peek-absent H _ _ (rw (c .before .enum-told .given .1) at (c .before .before .before .seat-of .ensures .seat _ _ _ w H refl)))
 
 load-requires : tie.Need-load-requires
 load-requires c κs = inside (c .before .before)

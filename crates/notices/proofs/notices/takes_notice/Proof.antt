@@ -14,10 +14,10 @@ enum-told-2 : tie.Need-enum-told-2
 enum-told-2 c = search needs
 
 returns : tie.Need-returns
-returns c = λ by-handle marks head w H held. noticed-none _ _ (rw (c .enum-told2 .given .1) at (c .before .before .seat-of .ensures _ _ _ w H held))
+returns c = λ by-handle marks head w H held. noticed-none _ _ (rw (c .enum-told2 .given .1) at (c .before .before .seat-of .ensures .seat _ _ _ w H held))
 
 returns-2 : tie.Need-returns-2
-returns-2 c = λ by-handle marks head w H held. noticed-some H (rw (c .before .enum-told .given .1) at (c .before .before .before .seat-of .ensures _ _ _ w H held))
+returns-2 c = λ by-handle marks head w H held. noticed-some H (rw (c .before .enum-told .given .1) at (c .before .before .before .seat-of .ensures .seat _ _ _ w H held))
 
 pub takes-notice-spec : {M : Type 1} → statement M
 takes-notice-spec = tie.close (tie.spec seat-of-requires enum-told enum-told-2 returns returns-2)

@@ -24,7 +24,7 @@ start c = c .before .before .before .before .before .before .before .before
 found : (c : tie.After-s) (by-handle marks : List ℕ) (w : Cache)
     → Holds (memoryOf (now (start c .args .slots)) (now (start c .args .by-key)) by-handle marks) (start c .args .head) w
     → KeyAt (w .row) (start c .args .key .0) (c .s .given .0 .0 .0)
-found c by-handle marks w H = rw (c .s .given .1) at (c .before .before .seat-of .ensures by-handle marks _ w H refl)
+found c by-handle marks w H = rw (c .s .given .1) at (c .before .before .seat-of .ensures .seat by-handle marks _ w H refl)
 
 -- and where
 inside : (c : tie.After-s) → c .s .given .0 .0 .0 < length (entries (now (start c .args .slots)))
@@ -57,7 +57,7 @@ same-length c = search needs
 returns-2 : tie.Need-returns-2
 returns-2 c = λ by-handle marks w H.
     follows-told (c .plain2 .ensures)
-    (write-absent H _ _ (c .before .before .before .before .before .if1 .left) (rw (c .before .enum-told .given .1) at (c .before .before .before .seat-of .ensures _ _ _ w H refl)))
+    (write-absent H _ _ (c .before .before .before .before .before .if1 .left) (rw (c .before .enum-told .given .1) at (c .before .before .before .seat-of .ensures .seat _ _ _ w H refl)))
 
 rewrite-at-requires : tie.Need-rewrite-at-requires
 rewrite-at-requires c κs = record { slot = inside (c .before .before); flags = good (c .before .before) }
