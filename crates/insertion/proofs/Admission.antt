@@ -1,8 +1,8 @@
 -- A page under an absent key. Evictions leave pages that were there, so that the key and the handle are still new; where they
 -- made room, a slot is free; and where they did not, the form decides.
-use mathlib.Core.Path.{_≡_, refl, sym, ap, _∙_}
+use mathlib.Core.Path.{_≡_, refl, sym, ap, _∙_, subst}
 use mathlib.Core.Bool.{Bool, true, false, not, _&&_, false≢true}
-use mathlib.Core.List.{List, append-nil}
+use mathlib.Core.List.{List, [], _∷_, append-nil}
 use mathlib.Core.Logic.{_≢_}
 use Prim.Native.Nat.{ℕ, _+_, _≤_, _<_}
 use native.Mathlib.Omega.{arith}
@@ -11,6 +11,7 @@ use borrow.Author.Tests.{ltb-true, not-true, not-false}
 use Rattle.page.specs.Cache.{maxSlots}
 use Rattle.page.specs.declared.cache.PageCache.{PageCache}
 use Rattle.page.specs.declared.record.PageRecord.{PageRecord}
+use Rattle.free_marks.specs.Marks.{Wide}
 use Rattle.model.specs.Cache.{Cache, heldIn}
 use Rattle.model.specs.Call.{Outcome, answer, listing}
 use Rattle.model.specs.Limits.{Kept}
@@ -20,6 +21,7 @@ use Rattle.model.proofs.KeptRooms.{make-room, make-room-spare}
 use Rattle.model.proofs.KeptSize.{make-room-size}
 use Rattle.memory.specs.Memory.{Memory}
 use Rattle.memory.specs.Holds.{Holds}
+use Rattle.memory.proofs.Once.{holds-memory}
 use Rattle.memory.proofs.OnceKept.{holds-held}
 use Rattle.answer.specs.Answer.{codeOf, valueOf, Wrote, Comes}
 use Rattle.answer.specs.declared.answer.Answer.{Answer}
@@ -27,12 +29,14 @@ use Rattle.answer.specs.declared.answer.Answer.the-variants.{Done}
 use Rattle.answer.proofs.Steps.{comes-as, wrote-then, listing-follows, following-follows}
 use Rattle.eviction.specs.Room.{Made}
 use Rattle.eviction.specs.declared.making_room.Room as code
-use Rattle.moves.specs.Moves.{NewNames, Placeable, Places}
+use Rattle.moves.specs.declared.finding.Gaps.{Gaps}
+use Rattle.moves.specs.Moves.{NewNames, GapsOf, Placeable, Places}
+use Rattle.moves.proofs.Search.{gaps-new}
 use Rattle.insertion.specs.declared.form.Request.{Request}
 use Rattle.insertion.specs.declared.form.Insertion.{Insertion}
 use Rattle.insertion.specs.declared.form.Insertion.the-variants.{Plain, Forced, Upsert}
 use Rattle.insertion.specs.Form.{insertionOf, goesIn, turnedAway}
-use Rattle.insertion.specs.Admit.{Admits}
+use Rattle.insertion.specs.Admit.{Admits, KnownBefore}
 
 -- ── the form decides ─────────────────────────────────────────────────────────
 -- no room was made, and the page doesn't go in
@@ -98,6 +102,10 @@ still-new {key} {handle} c k new = record {
 }
 
 -- ── after the evictions ──────────────────────────────────────────────────────
+empty : (l : List ℕ) → length l ≡ 0 → l ≡ []
+empty [] q = refl
+empty (x ∷ l) q = absurd (omega arith)
+
 module _ {m : Memory} {head : PageCache} {c : Cache} (H : Holds m head c) {list : List ℕ} {listed : ℕ} {m′ : Memory} {list′ : List ℕ} {r : code.Room}
     (made : Made (makeRoom c) list listed m′ list′ r) where
   -- so few handles are listed that their number fits
@@ -113,6 +121,22 @@ module _ {m : Memory} {head : PageCache} {c : Cache} (H : Holds m head c) {list 
     wrote = rw (append-nil (makeRoom c .gone)) (wrote-then w (makeRoom c .gone) (rw (← count) at (made .handles)));
   }
 
+  -- the gaps. If no page went, the memory is what it was
+  module _ (asked : Request) {gaps : Gaps} (k : Kept c) (wide : Wide (m .marks)) (wide′ : Wide (m′ .marks))
+      (right : GapsOf (m .slots) (m .by-key) (m .by-handle) (head .held) (asked .key .0) (asked .handle .0) gaps) where
+    still-right : r .listed ≡ listed → GapsOf (m′ .slots) (m′ .by-key) (m′ .by-handle) (r .head .held) (asked .key .0) (asked .handle .0) gaps
+    still-right q =
+        let none-went : makeRoom c .gone ≡ [] = empty (makeRoom c .gone) (omega (arith, made .listed)) in
+        let same = holds-memory wide wide′ H (subst (Holds m′ (r .head)) (make-room c k .still none-went) (made .holds)) in
+        subst (λ (x : Memory). GapsOf (x .slots) (x .by-key) (x .by-handle) (r .head .held) (asked .key .0) (asked .handle .0) gaps) (same .0)
+        (subst (λ (h : PageCache). GapsOf (m .slots) (m .by-key) (m .by-handle) (h .held) (asked .key .0) (asked .handle .0) gaps) (same .1) right)
+
+    pub room-known : KnownBefore (m′ .slots) (m′ .by-key) (m′ .by-handle) (r .head) listed (r .listed) gaps asked
+    room-known = record {
+      new = record { marks = m′ .marks; cache = makeRoom c .cache; holds = made .holds; new = still-new c k (gaps-new H right) };
+      still = still-right;
+    }
+
   -- the test as the code makes it
   module _ (form : Insertion) {goes : Bool} (tested : goes ≡ goesIn form (r .head .held) (length (m′ .by-key))) where
     as-model : r .full && not goes ≡ staysOut form (makeRoom c)
@@ -121,12 +145,13 @@ module _ {m : Memory} {head : PageCache} {c : Cache} (H : Holds m head c) {list 
         let same : goes ≡ goesIn form (heldIn (makeRoom c .cache)) (makeRoom c .cache .size) = tested ∙ (λ i. goesIn form (held i) (made .holds .lengths .by-key i)) in
         λ i. made .full i && not (same i)
 
-    pub room-placeable : {key handle : ℕ} {page : PageRecord} → Kept c → NewNames key handle (c .row) → page .flags ≤ 31 → r .full && not goes ≡ false
-        → Placeable m′ (r .head) key handle page
-    room-placeable k new flags q = record {
+    pub room-placeable : {gaps : Gaps} {key handle : ℕ} {page : PageRecord} → Kept c
+        → GapsOf (m′ .slots) (m′ .by-key) (m′ .by-handle) (r .head .held) key handle gaps → page .flags ≤ 31 → r .full && not goes ≡ false
+        → Placeable m′ (r .head) gaps key handle page
+    room-placeable k right flags q = record {
       cache = makeRoom c .cache;
       holds = made .holds;
-      new = still-new c k new;
+      right = right;
       room = room-spare form c k (sym as-model ∙ q);
       flags = flags;
     }

@@ -22,7 +22,8 @@ use Rattle.memory.proofs.OnceKept.{holds-held, holds-fits}
 use Rattle.answer.specs.Answer.{Follows, Comes}
 use Rattle.answer.specs.declared.answered.Answered.{Answered}
 use Rattle.answer.proofs.Steps.{comes-as, wrote-none, unlisted-comes}
-use Rattle.moves.specs.Moves.{memoryOf, KeyAt, Replaceable}
+use Rattle.moves.specs.Moves.{memoryOf, KeyAt, KeyGap, Replaceable}
+use Rattle.moves.proofs.Search.{handle-miss}
 use Rattle.moves.proofs.Removal.{slot-inside}
 use Rattle.deletion.proofs.Deleting.{stored-is}
 use Rattle.insertion.specs.declared.form.Request.{Request}
@@ -63,12 +64,13 @@ module _ (asked : Request) where
 
 -- ── the key is absent ────────────────────────────────────────────────────────
 module _ {m : Memory} {head : PageCache} {list : List ℕ} {asked : Request} where
-  pub absent-admissible : (w : Insertable m head list asked) → find (asked .key .0) (w .cache .row) ≡ none → Admissible m head list 0 asked
+  pub absent-admissible : {at gap : ℕ} → Insertable m head list gap asked → KeyGap (m .slots) (m .by-key) (head .held) (asked .key .0) at
+      → Admissible m head list 0 (record { key = at; handle = gap }) asked
   absent-admissible w absent = record {
     cache = w .cache;
     holds = w .holds;
     kept = w .kept;
-    new = absent-new (asked .key .0) (asked .handle .0) (w .cache .row) absent (w .free);
+    right = record { of-key = absent; of-handle = w .nowhere };
     flags = w .flags;
     places = omega (arith, w .long);
     few = omega (arith, holds-held (w .holds), holds-fits (w .holds), w .holds .limits .most);
@@ -91,14 +93,14 @@ module _ {m : Memory} {head : PageCache} {list : List ℕ} {asked : Request} whe
           comes-as (by-key asked c (at c H .stands .found)) (found .comes c (at c H .entry) H k (at c H .stands) free);
     }
 
-  pub key-found : {s : ℕ} (w : Insertable m head list asked) → KeyAt (w .cache .row) (asked .key .0) s → Found m head list s asked
+  pub key-found : {s gap : ℕ} (w : Insertable m head list gap asked) → KeyAt (w .cache .row) (asked .key .0) s → Found m head list s asked
   key-found w t = record {
     cache = w .cache;
     entry = t .entry;
     holds = w .holds;
     kept = w .kept;
     stands = t .stands;
-    free = w .free;
+    free = handle-miss (w .holds) refl (asked .key .0) (asked .handle .0) (w .nowhere);
     flags = w .flags;
     long = w .long;
   }

@@ -1,13 +1,13 @@
 -- A stale page under the key. It goes and is listed, and the new page is admitted without it; or rule 8 refuses, and then
 -- nothing follows.
-use mathlib.Core.Path.{_≡_, refl}
+use mathlib.Core.Path.{_≡_, refl, subst}
 use mathlib.Core.List.{List, [], _∷_}
 use Prim.Native.Nat.{ℕ, suc}
 use native.Mathlib.Omega.{arith}
 use lib.ListN.{length}
 use Rattle.page.specs.declared.cache.PageCache.{PageCache}
 use Rattle.model.specs.Cache.{Cache, heldIn, leave}
-use Rattle.model.specs.Row.{Entry}
+use Rattle.model.specs.Row.{Page, Entry}
 use Rattle.model.proofs.ByKey.{find-stands, stands-own}
 use Rattle.model.proofs.KeptPages.{leave-kept, without-held}
 use Rattle.memory.specs.Memory.{Memory}
@@ -17,13 +17,24 @@ use Rattle.answer.specs.Answer.{plainly}
 use Rattle.answer.specs.declared.answer.Answer.{Answer}
 use Rattle.answer.specs.declared.answered.Answered.{Answered}
 use Rattle.answer.proofs.Steps.{comes-as, wrote-none, wrote-next, deleting-done}
-use Rattle.moves.specs.Moves.{StandsAt}
-use Rattle.deletion.specs.Deletion.{CanDelete, Goes, Stays}
+use Rattle.moves.specs.declared.finding.Gaps.{Gaps}
+use Rattle.moves.specs.Moves.{StandsAt, Unseated, GapsOf}
+use Rattle.deletion.specs.declared.deletion.Deletion.{Deletion}
+use Rattle.deletion.specs.declared.deletion.Deletion.the-variants.{Deleted, Refused}
+use Rattle.deletion.specs.Deletion.{CanDelete, Goes, Stays, DeletionOf}
 use Rattle.deletion.proofs.Deleting.{stays-comes}
 use Rattle.insertion.specs.declared.form.Request.{Request}
 use Rattle.insertion.specs.Admit.{admitting, Admissible, Admits}
 use Rattle.insertion.specs.Renew.{Found, InsertsStale}
 use Rattle.insertion.proofs.Names.{deleted-new}
+
+-- what a deletion promises, once its answer is known
+module _ (c : Cache) (p : Page) (m : Memory) (list : List ℕ) (place : ℕ) (m′ : Memory) (list′ : List ℕ) (r : Deletion) where
+  pub says-goes : {head′ : PageCache} → r ≡ Deleted head′ → DeletionOf c p m list place m′ list′ r → Goes c p list place m′ list′ head′
+  says-goes = subst (DeletionOf c p m list place m′ list′)
+
+  pub says-stays : {why : Answer} → r ≡ Refused why → DeletionOf c p m list place m′ list′ r → Stays p m list m′ list′ why
+  says-stays = subst (DeletionOf c p m list place m′ list′)
 
 module _ {m : Memory} {head : PageCache} {list : List ℕ} {s : ℕ} {asked : Request} where
   abbrev less : (w : Found m head list s asked) → suc (heldIn (leave (w .entry .page) (w .cache))) ≡ heldIn (w .cache)
@@ -46,14 +57,25 @@ module _ {m : Memory} {head : PageCache} {list : List ℕ} {s : ℕ} {asked : Re
 
   module _ {m′ : Memory} {list′ : List ℕ} {head′ : PageCache}
       (goes : (c : Cache) (k : ℕ) (e : Entry) → Holds m head c → StandsAt (c .row) k s e → Goes c (e .page) list 0 m′ list′ head′) where
-    pub stale-admissible : Found m head list s asked → length list′ ≡ length list → Admissible m′ head′ list′ 1 asked
-    stale-admissible w long =
+    pub stale-unseated : Found m head list s asked
+        → Unseated (m′ .slots) (m′ .by-key) (m′ .by-handle) head′ (asked .key .0) (asked .handle .0)
+    stale-unseated w = record {
+      marks = m′ .marks;
+      cache = leave (w .entry .page) (w .cache);
+      holds = goes (w .cache) (asked .key .0) (w .entry) (w .holds) (w .stands) .holds;
+      new = deleted-new (asked .key .0) (asked .handle .0) (w .cache) (w .entry) (w .kept) (w .stands .found) (w .free);
+    }
+
+    pub stale-admissible : {gaps : Gaps} → Found m head list s asked → length list′ ≡ length list
+        → GapsOf (m′ .slots) (m′ .by-key) (m′ .by-handle) (head′ .held) (asked .key .0) (asked .handle .0) gaps
+        → Admissible m′ head′ list′ 1 gaps asked
+    stale-admissible w long right =
         let gone = goes (w .cache) (asked .key .0) (w .entry) (w .holds) (w .stands) in
         record {
           cache = leave (w .entry .page) (w .cache);
           holds = gone .holds;
           kept = leave-kept (w .entry .page) (w .cache) (w .kept);
-          new = deleted-new (asked .key .0) (asked .handle .0) (w .cache) (w .entry) (w .kept) (w .stands .found) (w .free);
+          right = right;
           flags = w .flags;
           places = omega (arith, less w, holds-held (gone .holds), holds-held (w .holds), w .long);
           few = omega (arith, less w, holds-held (gone .holds), holds-held (w .holds), holds-fits (w .holds), w .holds .limits .most);

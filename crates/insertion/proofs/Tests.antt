@@ -1,7 +1,7 @@
 -- The tests before the rules are the model's, in the model's order: so the call answers a refusal where the model does, and
 -- otherwise acts.
-use mathlib.Core.Path.{_≡_, refl, sym, _∙_}
-use mathlib.Core.Bool.{Bool, true, false}
+use mathlib.Core.Path.{_≡_, refl}
+use mathlib.Core.Bool.{true, false}
 use mathlib.Core.List.{List}
 use Prim.Native.Nat.{ℕ, _≤_, _<_, _^_}
 use lib.ListN.{length}
@@ -20,10 +20,10 @@ use Rattle.answer.specs.Answer.{plainly, Comes}
 use Rattle.answer.specs.declared.answer.Answer.the-variants.{BadRecord, ShortList, HandleElsewhere}
 use Rattle.answer.specs.declared.answered.Answered.{Answered}
 use Rattle.answer.proofs.Steps.{step-acts, step-bad-record, step-short-list, step-elsewhere, list-short, list-long, comes-as, plain-comes}
-use Rattle.moves.specs.Moves.{TestsHandle}
+use Rattle.moves.specs.Moves.{KeyAt, HandleGap}
 use Rattle.insertion.specs.declared.form.Request.{Request}
 use Rattle.insertion.specs.Form.{insertionOf}
-use Rattle.insertion.specs.Renew.{Free}
+use Rattle.insertion.specs.Renew.{Free, Found}
 use Rattle.insertion.specs.Insert.{Insertable, Inserts}
 
 -- the call that is asked for
@@ -52,21 +52,34 @@ module _ (asked : Request) {list : List ℕ} {m : Memory} {head : PageCache} {c 
           comes-as (step-acts (asking asked list) (record { capacity = refl; state = le-ltb 31 (asked .page .flags) good; places = list-long H long; naming = free })) comes
 
 -- the words of the slots are of 64 bits, and the estimate of 32: so the cache is within its limits
-module _ {m : Memory} {head : PageCache} {list : List ℕ} {asked : Request} {b : Bool} (good : asked .page .flags ≤ 31)
-    (long : head .held ≤ length list) (told : TestsHandle (m .by-handle) (m .slots) (head .held) (asked .key .0) (asked .handle .0) b) (not-elsewhere : b ≡ false)
-    (wide : Wide (m .slots)) (small : head .estimate < 2 ^ 32) where
-  pub call-insertable : Sound m head → Insertable m head list asked
-  call-insertable s = record {
+module _ {m : Memory} {head : PageCache} {list : List ℕ} {asked : Request} (good : asked .page .flags ≤ 31)
+    (long : head .held ≤ length list) (wide : Wide (m .slots)) (small : head .estimate < 2 ^ 32) where
+  -- the handle stands nowhere
+  pub call-insertable : {gap : ℕ} → HandleGap (m .slots) (m .by-handle) (head .held) (asked .handle .0) gap → Sound m head
+      → Insertable m head list gap asked
+  call-insertable nowhere s = record {
     cache = s .cache;
     holds = s .holds;
     kept = holds-kept wide (s .holds) small;
-    free = sym (told _ _ _ _ (s .holds) refl) ∙ not-elsewhere;
+    nowhere = nowhere;
     flags = good;
     long = long;
   }
 
-  pub call-inserts : {m′ : Memory} {list′ : List ℕ} {r : Answered} → Inserts m head list asked m′ list′ r
-      → (c : Cache) → Holds m head c → Comes (step (asking asked list) c) list m′ list′ r
-  call-inserts inserts c H =
-      let free : Free asked c = sym (told _ _ _ c H refl) ∙ not-elsewhere in
-      acts asked H good long free (inserts .comes c H (holds-kept wide H small) free)
+  -- it stands under the key
+  pub call-found : {slot : ℕ} (s : Sound m head) → KeyAt (s .cache .row) (asked .key .0) slot × Free asked (s .cache)
+      → Found m head list slot asked
+  call-found s t = record {
+    cache = s .cache;
+    entry = t .0 .entry;
+    holds = s .holds;
+    kept = holds-kept wide (s .holds) small;
+    stands = t .0 .stands;
+    free = t .1;
+    flags = good;
+    long = long;
+  }
+
+  pub call-inserts : {m′ : Memory} {list′ : List ℕ} {r : Answered} → ((c : Cache) → Holds m head c → Free asked c)
+      → Inserts m head list asked m′ list′ r → (c : Cache) → Holds m head c → Comes (step (asking asked list) c) list m′ list′ r
+  call-inserts free inserts c H = acts asked H good long (free c H) (inserts .comes c H (holds-kept wide H small) (free c H))

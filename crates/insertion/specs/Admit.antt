@@ -14,7 +14,8 @@ use Rattle.memory.specs.Memory.{Memory}
 use Rattle.memory.specs.Holds.{Holds}
 use Rattle.answer.specs.Answer.{Wrote, Comes}
 use Rattle.answer.specs.declared.answered.Answered.{Answered}
-use Rattle.moves.specs.Moves.{NewNames}
+use Rattle.moves.specs.declared.finding.Gaps.{Gaps}
+use Rattle.moves.specs.Moves.{NewNames, Unseated, GapsOf}
 use Rattle.insertion.specs.declared.form.Request.{Request}
 use Rattle.insertion.specs.Form.{insertionOf}
 
@@ -26,13 +27,13 @@ New asked c = NewNames (asked .key .0) (asked .handle .0) (c .row)
 abbrev pub admitting : Request → Cache → Outcome
 admitting asked = admit (asked .key .0) (asked .handle .0) (asked .page) (insertionOf (asked .form))
 
--- the memory holds a cache within its limits, to which the key and the handle are new; the record is good; the list has `listed`
--- handles already, and after them a place for every page that is held
-pub record Admissible (m : Memory) (head : PageCache) (list : List ℕ) (listed : ℕ) (asked : Request) : Type 0 where
+-- the memory holds a cache within its limits; the gaps are those of the key and the handle, which are new to it; the record is good;
+-- the list has `listed` handles already, and after them a place for every page that is held
+pub record Admissible (m : Memory) (head : PageCache) (list : List ℕ) (listed : ℕ) (gaps : Gaps) (asked : Request) : Type 0 where
   pub cache : Cache
   pub holds : Holds m head cache
   pub kept : Kept cache
-  pub new : New asked cache
+  pub right : GapsOf (m .slots) (m .by-key) (m .by-handle) (head .held) (asked .key .0) (asked .handle .0) gaps
   pub flags : asked .page .flags ≤ 31
   pub places : listed + head .held ≤ length list
   pub few : listed + head .held ≤ maxSlots
@@ -41,3 +42,8 @@ pub record Admissible (m : Memory) (head : PageCache) (list : List ℕ) (listed 
 pub record Admits (m : Memory) (head : PageCache) (list : List ℕ) (listed : ℕ) (asked : Request) (m′ : Memory) (list′ : List ℕ) (r : Answered) : Type 0 where
   pub comes : (c : Cache) (gone before : List ℕ) → Holds m head c → Kept c → New asked c → Wrote gone before list → length gone ≡ listed
       → Comes (listing gone (admitting asked c)) before m′ list′ r
+
+-- the key and the handle are new to the cache. If as many handles are listed as were before, the gaps of before are theirs
+pub record KnownBefore (slots by-key by-handle : List ℕ) (head : PageCache) (listed count : ℕ) (gaps : Gaps) (asked : Request) : Type 0 where
+  pub new : Unseated slots by-key by-handle head (asked .key .0) (asked .handle .0)
+  pub still : count ≡ listed → GapsOf slots by-key by-handle (head .held) (asked .key .0) (asked .handle .0) gaps

@@ -12,7 +12,7 @@ use Rattle.memory.specs.Memory.{Memory}
 use Rattle.memory.specs.Holds.{Holds}
 use Rattle.answer.specs.Answer.{Comes}
 use Rattle.answer.specs.declared.answered.Answered.{Answered}
-use Rattle.moves.specs.Moves.{StandsAt}
+use Rattle.moves.specs.Moves.{StandsAt, HandleGap}
 use Rattle.insertion.specs.declared.form.Request.{Request}
 use Rattle.insertion.specs.Form.{insertionOf}
 use Rattle.insertion.specs.Renew.{Free}
@@ -24,13 +24,13 @@ pub record InsertsFound (m : Memory) (head : PageCache) (list : List ℕ) (s : �
       → Comes (insertFound (asked .key .0) (asked .handle .0) (asked .page) (insertionOf (asked .form)) (some e) c) list m′ list′ r
 
 -- ── by the key ───────────────────────────────────────────────────────────────
--- the memory holds a cache within its limits, in which the handle stands under no other key; the record is good, and the
--- list is as long as held
-pub record Insertable (m : Memory) (head : PageCache) (list : List ℕ) (asked : Request) : Type 0 where
+-- the memory holds a cache within its limits; the gap is that of the handle, which stands nowhere; the record is good, and the list
+-- is as long as held
+pub record Insertable (m : Memory) (head : PageCache) (list : List ℕ) (gap : ℕ) (asked : Request) : Type 0 where
   pub cache : Cache
   pub holds : Holds m head cache
   pub kept : Kept cache
-  pub free : Free asked cache
+  pub nowhere : HandleGap (m .slots) (m .by-handle) (head .held) (asked .handle .0) gap
   pub flags : asked .page .flags ≤ 31
   pub long : head .held ≤ length list
 

@@ -3,15 +3,17 @@
 //     plain             room is made, or Full
 //     forced, upsert    room is made, or a free slot is taken beyond the capacity, or NoSlot
 //
-// The memory has to hold a cache to which the key and the handle are new, and the list has to have a place for every page that is
-// held. Callers may rely on `admit` being the model's rule: its answer, the pages passed, the evicted handles, listed after those
+// The memory has to hold a cache in which the key and the handle have the gaps that are told, and the list has to have a place for every
+// page that is held. The indexes are searched again only if a page was evicted. Callers may rely on `admit` being the model's rule: its answer, the pages passed, the evicted handles, listed after those
 // that stood in the list before, and the cache that the memory holds afterwards. Evictions stand on Full.
 use crate::form::Request;
 use answer::Answer;
 use answer::Answered;
+use moves::Gaps;
 use page::PageCache;
 ghost use Rattle.memory.specs.Memory.{memory, memories};
-ghost use Rattle.insertion.specs.Admit.{Admissible, Admits};
+ghost use Rattle.moves.specs.Moves.{GapsOf};
+ghost use Rattle.insertion.specs.Admit.{Admissible, Admits, KnownBefore};
 
 // The list has `listed` handles already, and those of the pages that are evicted follow them.
 pub fn admit(
@@ -22,9 +24,10 @@ pub fn admit(
     list: &mut [u32],
     listed: usize,
     head: PageCache,
+    gaps: Gaps,
     asked: Request,
 ) -> Answered
-    requires { ⌜ Admissible (memory slots «by_key» «by_handle» marks) head (now list) listed asked ⌝ }
+    requires { ⌜ Admissible (memory slots «by_key» «by_handle» marks) head (now list) listed gaps asked ⌝ }
     ensures { λ r. let m = memories slots «by_key» «by_handle» marks in ⌜ Admits (m .entry) head (now (list .entry)) listed asked (m .exit) (now (list .exit)) r ⌝ }
 {
     let room = eviction::make_room_for(slots, by_key, by_handle, marks, list, listed, head);
@@ -40,12 +43,14 @@ pub fn admit(
             head: left,
         };
     }
+    let right = gaps_now(slots, by_key, by_handle, left, listed, room.listed, gaps, asked);
     let after = moves::place(
         slots,
         by_key,
         by_handle,
         marks,
         left,
+        right,
         asked.key,
         asked.handle,
         asked.page,
@@ -56,4 +61,24 @@ pub fn admit(
         listed: count,
         head: after,
     }
+}
+
+// The gaps once room was made, when `count` handles are listed. If that is as many as before, no page went and they are the same.
+fn gaps_now(
+    slots: &[u64],
+    by_key: &[u32],
+    by_handle: &[u32],
+    head: PageCache,
+    listed: usize,
+    count: usize,
+    gaps: Gaps,
+    asked: Request,
+) -> Gaps
+    requires { ⌜ KnownBefore (now slots) (now «by_key») (now «by_handle») head listed count gaps asked ⌝ }
+    ensures { λ r. ⌜ GapsOf (now (slots .entry)) (now («by_key» .entry)) (now («by_handle» .entry)) (head .held) (asked .key .0) (asked .handle .0) r ⌝ }
+{
+    if count == listed {
+        return gaps;
+    }
+    moves::find_gaps(slots, by_key, by_handle, head, asked.key, asked.handle)
 }

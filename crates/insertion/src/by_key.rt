@@ -1,14 +1,16 @@
 // An insertion, once its tests are passed, by what stands under the key: nothing (absent.rt), a page that is neither loaded nor locked
 // (stale.rt), or any other page (present.rt).
 //
-// The memory has to hold a cache in which the handle stands under no other key; the record has to be good, and the list as long as
-// held. Callers may rely on `insert_by_key` being the model's rules: its answer, the pages passed, the handles listed and the cache
+// The memory has to hold a cache; the record has to be good, and the list as long as held. `insert_by_key` asks for the handle's gap, so
+// for a handle that stands nowhere; `insert_found` is told the slot of the key's page, and the handle stands under no other key. Callers
+// may rely on `insert_by_key` being the model's rules: its answer, the pages passed, the handles listed and the cache
 // that the memory holds afterwards.
 use crate::absent::admit;
 use crate::form::Request;
 use crate::present::present;
 use crate::stale::insert_stale;
 use answer::Answered;
+use moves::Gaps;
 use moves::Seat;
 use page::PageCache;
 use page::Slot;
@@ -23,19 +25,26 @@ pub fn insert_by_key(
     marks: &mut [u64],
     list: &mut [u32],
     head: PageCache,
+    gap: usize,
     asked: Request,
 ) -> Answered
-    requires { ⌜ Insertable (memory slots «by_key» «by_handle» marks) head (now list) asked ⌝ }
+    requires { ⌜ Insertable (memory slots «by_key» «by_handle» marks) head (now list) gap asked ⌝ }
     ensures { λ r. let m = memories slots «by_key» «by_handle» marks in ⌜ Inserts (m .entry) head (now (list .entry)) asked (m .exit) (now (list .exit)) r ⌝ }
 {
-    let Seat::At(s) = moves::seat_of(by_key, slots, head.held, asked.key) else {
-        return admit(slots, by_key, by_handle, marks, list, 0, head, asked);
-    };
-    insert_found(slots, by_key, by_handle, marks, list, head, s, asked)
+    match moves::seat_of(by_key, slots, head.held, asked.key) {
+        Seat::At(s) => insert_found(slots, by_key, by_handle, marks, list, head, s, asked),
+        Seat::Absent(at) => {
+            let gaps = Gaps {
+                key: at,
+                handle: gap,
+            };
+            admit(slots, by_key, by_handle, marks, list, 0, head, gaps, asked)
+        }
+    }
 }
 
 // The key's page stands at slot s. One that is neither loaded nor locked was given up while it was read, and must go.
-fn insert_found(
+pub fn insert_found(
     slots: &mut [u64],
     by_key: &mut [u32],
     by_handle: &mut [u32],

@@ -1,9 +1,11 @@
 // The three insertions: the tests that come before the rules, in their order, and then the rules.
 use crate::by_key::insert_by_key;
+use crate::by_key::insert_found;
 use crate::form::Insertion;
 use crate::form::Request;
 use answer::Answer;
 use answer::Answered;
+use moves::HandleSeat;
 use page::PageCache;
 use page::PageCacheKey;
 use page::PageHandle;
@@ -91,7 +93,8 @@ pub fn force_insert_page(
     insert_page(slots, by_key, by_handle, marks, list, head, asked)
 }
 
-// What the three have in common.
+// What the three have in common. The search for the handle, which a test asks for, is the only one: it finds the page of the handle's
+// own key, or the gap that the handle goes into.
 fn insert_page(
     slots: &mut [u64],
     by_key: &mut [u32],
@@ -111,8 +114,9 @@ fn insert_page(
     if list.len() < head.held as usize {
         return Answered::plain(Answer::ShortList, head);
     }
-    if moves::handle_elsewhere(by_handle, slots, head.held, asked.key, asked.handle) {
-        return Answered::plain(Answer::HandleElsewhere, head);
+    match moves::seat_of_handle(by_handle, slots, head.held, asked.key, asked.handle) {
+        HandleSeat::Elsewhere => Answered::plain(Answer::HandleElsewhere, head),
+        HandleSeat::UnderKey(s) => insert_found(slots, by_key, by_handle, marks, list, head, s, asked),
+        HandleSeat::Nowhere(gap) => insert_by_key(slots, by_key, by_handle, marks, list, head, gap, asked),
     }
-    insert_by_key(slots, by_key, by_handle, marks, list, head, asked)
 }

@@ -14,7 +14,8 @@ use page::Slot;
 ghost use Rattle.memory.specs.Memory.{memory, memories};
 ghost use Rattle.insertion.specs.Renew.{Found, InsertsStale};
 
-// The page at slot s is deleted and listed, and the new one goes on as under an absent key; or rule 8 refuses.
+// The page at slot s is deleted and listed, and the new one goes on as under an absent key, with gaps of after the deletion; or rule 8
+// refuses.
 pub fn insert_stale(
     slots: &mut [u64],
     by_key: &mut [u32],
@@ -30,6 +31,9 @@ pub fn insert_stale(
 {
     match deletion::delete_page(slots, by_key, by_handle, marks, list, 0, head, s) {
         Deletion::Refused(why) => Answered::plain(why, head),
-        Deletion::Deleted(left) => admit(slots, by_key, by_handle, marks, list, 1, left, asked),
+        Deletion::Deleted(left) => {
+            let gaps = moves::find_gaps(slots, by_key, by_handle, left, asked.key, asked.handle);
+            admit(slots, by_key, by_handle, marks, list, 1, left, gaps, asked)
+        }
     }
 }

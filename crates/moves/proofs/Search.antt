@@ -12,6 +12,7 @@ use lib.ListN.{length, getD}
 use borrow.Author.Tests.{eq-eqb, ne-eqb}
 use Rattle.page.specs.declared.cache.PageCache.{PageCache}
 use Rattle.page.specs.declared.entry.PageCacheEntry.{PageCacheEntry}
+use Rattle.page.specs.declared.names.Slot.{Slot}
 use Rattle.pool.specs.Slots.{blank, entries}
 use Rattle.ring_links.specs.Ring.{has}
 use Rattle.order.specs.Names.{names}
@@ -32,7 +33,11 @@ use Rattle.memory.specs.Holds.{seen, rowOf, Holds}
 use Rattle.memory.proofs.Rows.{each-seat, seat-each}
 use Rattle.memory.proofs.Standing.{seat-found}
 use Rattle.moves.specs.declared.finding.Gaps.{Gaps}
-use Rattle.moves.specs.Moves.{KeyAt, KeyGap, HandleGap, NewNames, GapsOf}
+use Rattle.moves.specs.declared.finding.Seat.{Seat}
+use Rattle.moves.specs.declared.finding.Seat.the-variants as variants
+use Rattle.moves.specs.declared.finding.HandleSeat.{HandleSeat}
+use Rattle.moves.specs.declared.finding.HandleSeat.the-variants.{Elsewhere, UnderKey, Nowhere}
+use Rattle.moves.specs.Moves.{memoryOf, KeyAt, KeyGap, SeatIs, SeatGap, Seats, HandleGap, HandleIs, HandleSeatGap, SeatsHandle, NewNames, GapsOf}
 
 -- ── a handle under another key ───────────────────────────────────────────────
 module _ (key handle : ℕ) where
@@ -149,3 +154,26 @@ module _ {m : Memory} {head : PageCache} {c : Cache} (H : Holds m head c) {key h
       of-key = by-key .miss (H .seats) (H .keys) (sym (H .headed .held)) key-absent;
       of-handle = by-handle .miss (H .seats) (H .handles) (sym (H .headed .held)) handle-absent;
     }
+
+-- ── what a search promises, once its answer is known ─────────────────────────
+module _ {by-key slots : List ℕ} {held key : ℕ} {r : Seat} (s : Seats by-key slots held key r) where
+  module _ {by-handle marks : List ℕ} {head : PageCache} {c : Cache} (H : Holds (memoryOf slots by-key by-handle marks) head c) (h : head .held ≡ held) where
+    pub seat-at : {at : Slot} → r ≡ variants.At at → KeyAt (c .row) key (at .0)
+    seat-at q = subst (SeatIs (c .row) key) q (s .seat by-handle marks head c H h)
+
+    pub seat-absent : {gap : ℕ} → r ≡ variants.Absent gap → find key (c .row) ≡ none
+    seat-absent q = subst (SeatIs (c .row) key) q (s .seat by-handle marks head c H h)
+
+  pub seat-gap : {gap : ℕ} → r ≡ variants.Absent gap → KeyGap slots by-key held key gap
+  seat-gap q = subst (SeatGap slots by-key held key) q (s .gap)
+
+module _ {by-handle slots : List ℕ} {held key handle : ℕ} {r : HandleSeat} (s : SeatsHandle by-handle slots held key handle r) where
+  module _ {by-key marks : List ℕ} {head : PageCache} {c : Cache} (H : Holds (memoryOf slots by-key by-handle marks) head c) (h : head .held ≡ held) where
+    pub seat-elsewhere : r ≡ Elsewhere → underOther key handle (c .row) ≡ true
+    seat-elsewhere q = subst (HandleIs (c .row) key handle) q (s .seat by-key marks head c H h)
+
+    pub seat-under : {at : Slot} → r ≡ UnderKey at → KeyAt (c .row) key (at .0) × (underOther key handle (c .row) ≡ false)
+    seat-under q = subst (HandleIs (c .row) key handle) q (s .seat by-key marks head c H h)
+
+  pub seat-nowhere : {gap : ℕ} → r ≡ Nowhere gap → HandleGap slots by-handle held handle gap
+  seat-nowhere q = subst (HandleSeatGap slots by-handle held handle) q (s .gap)

@@ -1,107 +1,114 @@
--- Room is made, or the form decides whether the page goes in without it.
+-- Room is made, or the form decides whether the page goes in without it. The gaps are right for the memory with the room.
 use borrow.Author.Needs.{needs}
 use native.Mathlib.Omega.{arith}
 use mathlib.Core.Path.{_∙_}
-use Rattle.insertion.proofs.Admission.{few-listed, room-placeable, admits-refused, admits-placed}
+use Rattle.insertion.proofs.Admission.{few-listed, room-known, room-placeable, admits-refused, admits-placed}
 use Rattle.insertion.proofs.absent.admit.Statement.{statement}
 use Rattle.insertion.proofs.absent.admit.Tie as tie
 
-make-room-for-requires : tie.Need-make-room-for-requires
-make-room-for-requires c κs =
-    let start = c .before .before .before .before .before .before .before .before .before .before in
-    record { sound = record { cache = start .pre .cache; holds = start .pre .holds }; places = start .pre .places }
+-- ── from each place back to the one before it ────────────────────────────────
+abbrev start-arg : tie.After-make-room-for-arg5 → tie.Start
+start-arg c = c .before .before .before .before .before .before .before .before .before .before
 
+abbrev start : tie.After-make-room-for → tie.Start
+start c = start-arg (c .before)
+
+abbrev room-known-of : tie.After-struct-known → tie.After-make-room-for
+room-known-of c = c .before .before .before .before .before .before .before .before .before .before .before .before
+
+abbrev room-of : tie.After-goes-in → tie.After-make-room-for
+room-of c = room-known-of (c .before)
+
+abbrev goes-of : tie.After-gaps-now → tie.Else1
+goes-of c = c .before .before .before .before
+
+-- where it was tested whether the page goes in
+abbrev tested : tie.After-gaps-now → tie.After-goes-in
+tested c = goes-of c .before .before
+
+abbrev gaps-of : tie.After-place → tie.After-gaps-now
+gaps-of c = c .before .before .before .before .before
+
+abbrev place-of : tie.After-slice-known14 → tie.After-place
+place-of c = c .before .before .before .before .before .before .before .before
+
+-- ── the needs ────────────────────────────────────────────────────────────────
 cast-count : tie.Need-cast-count
 cast-count c =
-    let at-make-room-for = c .before .before .before .before .before .before .before .before .before .before .before .before in
-    let start = at-make-room-for .before .before .before .before .before .before .before .before .before .before .before in
-    omega (arith, few-listed (start .pre .holds) (at-make-room-for .make-room-for .ensures _ (start .pre .holds)) (start .pre .kept) (start .pre .few))
-
-goes-in-requires : tie.Need-goes-in-requires
-goes-in-requires c κs = search needs
-
-turned-away-requires : tie.Need-turned-away-requires
-turned-away-requires c κs = search needs
-
-same-length : tie.Need-same-length
-same-length c = search needs
-
-same-length-2 : tie.Need-same-length-2
-same-length-2 c = search needs
-
-same-length-3 : tie.Need-same-length-3
-same-length-3 c = search needs
-
-same-length-4 : tie.Need-same-length-4
-same-length-4 c = search needs
-
-same-length-5 : tie.Need-same-length-5
-same-length-5 c = search needs
+    let room = room-known-of c in
+    let begin = start room in
+    omega (arith, few-listed (begin .pre .holds) (room .make-room-for .ensures _ (begin .pre .holds)) (begin .pre .kept) (begin .pre .few))
 
 returns : tie.Need-returns
 returns c =
-    let at-if1 = c .before in
-    let at-goes-in = at-if1 .before .before in
-    let at-make-room-for = at-goes-in .before .before .before .before .before .before .before .before .before .before .before .before .before in
-    admits-refused (at-make-room-for .make-room-for .ensures) (at-goes-in .goes-in .ensures) (c .turned-away .ensures) (at-if1 .if1 .taken)
+    let test = c .before .before .before in
+    admits-refused (room-of test .make-room-for .ensures) (test .goes-in .ensures) (c .turned-away .ensures) (c .before .if1 .taken)
+
+gaps-now-requires : tie.Need-gaps-now-requires
+gaps-now-requires c κs =
+    let test = c .before .before .before .before .before in
+    let marks-after = test .before .before .before .before .before in
+    let room = room-of test in
+    let marks-before = room .before .before .before .before .before .before .before in
+    let begin = start room in
+    room-known (begin .pre .holds) (room .make-room-for .ensures _ (begin .pre .holds)) (begin .args .asked) (begin .pre .kept)
+    (record { each = λ k. marks-before .slice-known4 .given k .fits }) (record { each = λ k. marks-after .slice-known9 .given k .fits })
+    (begin .pre .right)
 
 place-requires : tie.Need-place-requires
 place-requires c κs =
-    let at-if1 = c .before .before .before .before in
-    let at-goes-in = at-if1 .before .before in
-    let at-make-room-for = at-goes-in .before .before .before .before .before .before .before .before .before .before .before .before .before in
-    let start = at-make-room-for .before .before .before .before .before .before .before .before .before .before .before in
-    room-placeable (start .pre .holds) (at-make-room-for .make-room-for .ensures _ (start .pre .holds)) (start .args .asked .form) (at-goes-in .goes-in .ensures) (start .pre .kept) (start .pre .new) (start .pre .flags) (at-if1 .if1 .left)
+    let gaps = c .before .before .before .before in
+    let test = tested gaps in
+    let room = room-of test in
+    let begin = start room in
+    room-placeable (begin .pre .holds) (room .make-room-for .ensures _ (begin .pre .holds)) (begin .args .asked .form) (test .goes-in .ensures)
+    (begin .pre .kept) (gaps .gaps-now .ensures) (begin .pre .flags) (goes-of gaps .if1 .left)
 
 same-length-6 : tie.Need-same-length-6
 same-length-6 c =
-    let at-place = c .before .before .before .before .before .before .before .before in
-    let at-make-room-for = at-place .before .before .before .before .before .before .before .before .before .before .before .before .before .before .before .before .before .before .before .before in
-    at-place .place .kept .0 ∙ at-make-room-for .make-room-for .kept .0
+    let placed = place-of c in
+    placed .place .kept .0 ∙ room-of (tested (gaps-of placed)) .make-room-for .kept .0
 
 same-length-7 : tie.Need-same-length-7
 same-length-7 c =
-    let at-place = c .before .before .before .before .before .before .before .before in
-    let at-make-room-for = at-place .before .before .before .before .before .before .before .before .before .before .before .before .before .before .before .before .before .before .before .before in
-    at-place .place .kept .1 .0 ∙ at-make-room-for .make-room-for .kept .1 .0
+    let placed = place-of c in
+    placed .place .kept .1 .0 ∙ room-of (tested (gaps-of placed)) .make-room-for .kept .1 .0
 
 same-length-8 : tie.Need-same-length-8
 same-length-8 c =
-    let at-place = c .before .before .before .before .before .before .before .before in
-    let at-make-room-for = at-place .before .before .before .before .before .before .before .before .before .before .before .before .before .before .before .before .before .before .before .before in
-    at-place .place .kept .1 .1 .0 ∙ at-make-room-for .make-room-for .kept .1 .1 .0
+    let placed = place-of c in
+    placed .place .kept .1 .1 .0 ∙ room-of (tested (gaps-of placed)) .make-room-for .kept .1 .1 .0
 
 same-length-9 : tie.Need-same-length-9
 same-length-9 c =
-    let at-place = c .before .before .before .before .before .before .before .before in
-    let at-make-room-for = at-place .before .before .before .before .before .before .before .before .before .before .before .before .before .before .before .before .before .before .before .before in
-    at-place .place .kept .1 .1 .1 .0 ∙ at-make-room-for .make-room-for .kept .1 .1 .1 .0
+    let placed = place-of c in
+    placed .place .kept .1 .1 .1 .0 ∙ room-of (tested (gaps-of placed)) .make-room-for .kept .1 .1 .1 .0
 
 same-length-10 : tie.Need-same-length-10
-same-length-10 c = search needs
+same-length-10 c = room-of (tested (gaps-of (place-of c))) .make-room-for .kept .1 .1 .1 .1 .0
 
 returns-2 : tie.Need-returns-2
 returns-2 c =
-    let at-place = c .before .before .before .before .before .before .before .before in
-    let at-if1 = at-place .before .before .before .before .before in
-    let at-goes-in = at-if1 .before .before in
-    let at-make-room-for = at-goes-in .before .before .before .before .before .before .before .before .before .before .before .before .before in
-    admits-placed (at-make-room-for .make-room-for .ensures) (at-goes-in .goes-in .ensures) (at-if1 .if1 .left) (at-place .place .ensures)
+    let placed = place-of c in
+    let gaps = gaps-of placed in
+    let test = tested gaps in
+    admits-placed (room-of test .make-room-for .ensures) (test .goes-in .ensures) (goes-of gaps .if1 .left) (placed .place .ensures)
 
 pub admit-spec : {M : Type 1} → statement M
 admit-spec =
     tie.close
     (tie.spec
-    make-room-for-requires
+    (λ c κs. search needs)
     cast-count
-    goes-in-requires
-    turned-away-requires
-    same-length
-    same-length-2
-    same-length-3
-    same-length-4
-    same-length-5
+    (λ c κs. search needs)
+    (λ c κs. search needs)
+    (λ c. search needs)
+    (λ c. search needs)
+    (λ c. search needs)
+    (λ c. search needs)
+    (λ c. search needs)
     returns
+    gaps-now-requires
     place-requires
     same-length-6
     same-length-7
