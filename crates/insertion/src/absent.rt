@@ -3,9 +3,10 @@
 //     plain             room is made, or Full
 //     forced, upsert    room is made, or a free slot is taken beyond the capacity, or NoSlot
 //
-// The memory has to hold a cache in which the key and the handle have the gaps that are told, and the list has to have a place for every
-// page that is held. The indexes are searched again only if a page was evicted. Callers may rely on `admit` being the model's rule: its answer, the pages passed, the evicted handles, listed after those
-// that stood in the list before, and the cache that the memory holds afterwards. Evictions stand on Full.
+// The memory has to hold a cache; the key and the handle have to be new to it, with the gaps that `admit` is told; and the list has to
+// have a place for every page that is held. Callers may rely on `admit` being the model's rule: its answer, the pages passed, the
+// evicted handles, listed after those that stood in the list before, and the cache that the memory holds afterwards. Evictions stand on
+// Full. The indexes are searched again only if a page was evicted.
 use crate::form::Request;
 use answer::Answer;
 use answer::Answered;
@@ -43,7 +44,16 @@ pub fn admit(
             head: left,
         };
     }
-    let right = gaps_now(slots, by_key, by_handle, left, listed, room.listed, gaps, asked);
+    let right = gaps_now(
+        slots,
+        by_key,
+        by_handle,
+        left,
+        listed,
+        room.listed,
+        gaps,
+        asked,
+    );
     let after = moves::place(
         slots,
         by_key,
@@ -63,7 +73,7 @@ pub fn admit(
     }
 }
 
-// The gaps once room was made, when `count` handles are listed. If that is as many as before, no page went and they are the same.
+// The gaps once room was made, when `count` handles are listed. If that is as many as before, no page went, and they are the same.
 fn gaps_now(
     slots: &[u64],
     by_key: &[u32],

@@ -1,9 +1,9 @@
 // An insertion, once its tests are passed, by what stands under the key: nothing (absent.rt), a page that is neither loaded nor locked
 // (stale.rt), or any other page (present.rt).
 //
-// The memory has to hold a cache; the record has to be good, and the list as long as held. `insert_by_key` asks for the handle's gap, so
-// for a handle that stands nowhere; `insert_found` is told the slot of the key's page, and the handle stands under no other key. Callers
-// may rely on `insert_by_key` being the model's rules: its answer, the pages passed, the handles listed and the cache
+// The memory has to hold a cache; the record has to be good, and the list as long as held. `insert_by_key` searches for the key and is
+// told the gap of the handle, which has to stand nowhere; `insert_found` is told the slot of the key's page, and the handle has to stand
+// under no other key. Callers may rely on both being the model's rules: the answer, the pages passed, the handles listed and the cache
 // that the memory holds afterwards.
 use crate::absent::admit;
 use crate::form::Request;

@@ -93,8 +93,8 @@ pub fn force_insert_page(
     insert_page(slots, by_key, by_handle, marks, list, head, asked)
 }
 
-// What the three have in common. The search for the handle, which a test asks for, is the only one: it finds the page of the handle's
-// own key, or the gap that the handle goes into.
+// What the three have in common. The test for the handle is a search, and what it finds is used: the key's page, if the handle is that
+// page's, or the gap that the handle goes into.
 fn insert_page(
     slots: &mut [u64],
     by_key: &mut [u32],
@@ -116,7 +116,25 @@ fn insert_page(
     }
     match moves::seat_of_handle(by_handle, slots, head.held, asked.key, asked.handle) {
         HandleSeat::Elsewhere => Answered::plain(Answer::HandleElsewhere, head),
-        HandleSeat::UnderKey(s) => insert_found(slots, by_key, by_handle, marks, list, head, s, asked),
-        HandleSeat::Nowhere(gap) => insert_by_key(slots, by_key, by_handle, marks, list, head, gap, asked),
+        HandleSeat::UnderKey(s) => insert_found(
+            slots,
+            by_key,
+            by_handle,
+            marks,
+            list,
+            head,
+            s,
+            asked,
+        ),
+        HandleSeat::Nowhere(gap) => insert_by_key(
+            slots,
+            by_key,
+            by_handle,
+            marks,
+            list,
+            head,
+            gap,
+            asked,
+        ),
     }
 }
