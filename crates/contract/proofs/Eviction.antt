@@ -1,11 +1,11 @@
 -- Demand 3 of the public calls, from their contract alone: what a call comes to is the model's step (Refused), and each sweep of
 -- the model is by demand 3.
 use mathlib.Core.Bool.{Bool, true, false, true≢false}
-use mathlib.Core.List.{[], _∷_, _++_}
+use mathlib.Core.List.{_∷_, _++_}
 use mathlib.Core.Logic.{_↔_}
 use mathlib.Core.Option.{Option, none, some}
 use mathlib.Core.Path.{_≡_, refl, sym, ap, _∙_, subst}
-use Prim.Native.Nat.{ℕ, zero, suc, _+_, _≤_, _<_}
+use Prim.Native.Nat.{ℕ, zero, suc, _≤_}
 use native.Mathlib.Omega.{arith}
 use lib.Dec.{ltb}
 use lib.ListN.{length, drop}
@@ -18,12 +18,12 @@ use Rattle.model.specs.Demand as demand
 use Rattle.model.specs.Evictions as demands
 use Rattle.model.specs.Rooms.{sweepOf, evicted, enough, sweeping}
 use Rattle.model.specs.Row.{Page, Entry, Row, Each}
-use Rattle.model.specs.Rules.{evictAnswer, evictFrom}
+use Rattle.model.specs.Rules.{evictAnswer, onEvictOne}
 use Rattle.model.specs.Step.{act, step}
 use Rattle.model.specs.Sweep.{Swept}
 use Rattle.model.specs.Uses.{Evicting, effectOf}
 use Rattle.model.specs.Uses as uses
-use Rattle.model.proofs.Evictions.{goes, none-goes}
+use Rattle.model.proofs.Evictions.{goes, none-goes, evict-none, evict-some}
 use Rattle.model.proofs.Evicts.{sweep-evicts}
 use Rattle.model.proofs.Exact.{step-counts}
 use Rattle.model.proofs.KeptRooms.{kept-limited, failed-room-unchanged}
@@ -38,19 +38,10 @@ use Rattle.contract.proofs.Refused.{called-kept, acted, unaltered}
 
 -- ── the model's step ─────────────────────────────────────────────────────────
 -- with a list that is long enough no test refuses
-step-tested : (places : ℕ) (c : Cache) → heldIn c ≤ places → step (evict-one places) c ≡ evictFrom (c .row) c
+step-tested : (places : ℕ) (c : Cache) → heldIn c ≤ places → step (evict-one places) c ≡ onEvictOne c
 unfolding act
 step-tested places c long =
     step-acts (evict-one places) (record { capacity = refl; state = refl; places = le-ltb places (heldIn c) long; naming = refl })
-
-evict-some : (row : Row) (c : Cache) {v : Option Page} → 1 ≤ length row → sweepOf c .victim ≡ v
-    → evictFrom row c ≡ evictAnswer (sweeping c v (enough (evicted c)))
-evict-some [] c some-held q = absurd (omega arith)
-evict-some (e ∷ es) c some-held q = ap {B = Outcome} (λ (v : Option Page). evictAnswer (sweeping c v (enough (evicted c)))) q
-
-evict-none : (row : Row) (c : Cache) → length row ≡ 0 → evictFrom row c ≡ answer 14 0 c
-evict-none [] c q = refl
-evict-none (e ∷ es) c q = absurd (omega arith)
 
 -- ── one eviction ─────────────────────────────────────────────────────────────
 module _ {places : ℕ} {before after : State} {head : PageCache} {r : Answered} (x : Called (evict-one places) before head after r) (c : Cache)
@@ -73,7 +64,7 @@ module _ {places : ℕ} {before after : State} {head : PageCache} {r : Answered}
 
   module _ (some-held : 1 ≤ heldIn c) (long : heldIn c ≤ places) where
     evicting : {v : Option Page} → sweepOf c .victim ≡ v → step (evict-one places) c ≡ evictAnswer (sweeping c v (enough (evicted c)))
-    evicting q = step-tested places c long ∙ evict-some (c .row) c some-held q
+    evicting q = step-tested places c long ∙ evict-some c some-held q
 
     answers-full : Each (Stays pageMayGo) (c .row) → sweepOf c ≡ refused pageMayGo (c .row) → AnswersFull c before head after r
     unfolding refused
@@ -139,7 +130,7 @@ pub public-eviction-whole : {places : ℕ} {before after : State} {head : PageCa
 public-eviction-whole {places} {before} {after} {head} {r} x = go (x .does)
   where
     held : (c : Cache) → Holds (before .memory) head c → heldIn c ≤ places → (n : ℕ) → heldIn c ≡ n → EvictionCall places before head after r
-    held c h long zero q = empty c h q (only-code x c h 14 (step-tested places c long ∙ evict-none (c .row) c q))
+    held c h long zero q = empty c h q (only-code x c h 14 (step-tested places c long ∙ evict-none c q))
     held c h long (suc n) q =
         let some-held : 1 ≤ heldIn c = omega (arith, q) in
         evicts c h some-held long (public-eviction x c h some-held long)

@@ -15,8 +15,11 @@ use Rattle.model.specs.Sweep.{Swept, lower, sweepFalls}
 use Rattle.model.specs.Demand.{Limited, MayGo, Stays, Victim, taken, refused, Evicts}
 use Rattle.model.specs.Demand as demand
 use Rattle.model.specs.Cache.{Cache, heldIn, withRow, withEstimate, pageMayGo}
+use Rattle.model.specs.Call.{Outcome, answer}
 use Rattle.model.specs.Limits.{Kept}
 use Rattle.model.specs.Rooms.{Room, sweepOf, victimOut, evicted, sweeping, evictions, evictTo}
+use Rattle.model.specs.Rooms as rooms
+use Rattle.model.specs.Rules.{evictAnswer, evictFrom, onEvictOne}
 use Rattle.model.specs.Evictions.{Loses, EachLoses, OneGoes, NoneGoes, EvictsTo, enough, full, takes}
 use Rattle.model.proofs.Evicts.{sweep-evicts, evicts-once, passed-bound, loses, stays-loses}
 use Rattle.model.proofs.KeptCases.{either}
@@ -154,3 +157,21 @@ module _ (target : ℕ) where
   evicts-total (enough few) = omega arith
   evicts-total (full more stay) = omega arith
   evicts-total (takes more one n less rest) = omega (arith, less, evicts-total rest)
+
+-- ── one eviction, asked for ──────────────────────────────────────────────────
+-- with nothing held there is none
+pub evict-none : (c : Cache) → heldIn c ≡ 0 → onEvictOne c ≡ answer 14 0 c
+evict-none c = go (c .row)
+  where
+    go : (row : Row) → length row ≡ 0 → evictFrom row c ≡ answer 14 0 c
+    go [] q = refl
+    go (e ∷ es) q = absurd (omega arith)
+
+-- and otherwise it is one sweep
+pub evict-some : (c : Cache) {v : Option Page} → 1 ≤ heldIn c → sweepOf c .victim ≡ v
+    → onEvictOne c ≡ evictAnswer (sweeping c v (rooms.enough (evicted c)))
+evict-some c {v} = go (c .row)
+  where
+    go : (row : Row) → 1 ≤ length row → sweepOf c .victim ≡ v → evictFrom row c ≡ evictAnswer (sweeping c v (rooms.enough (evicted c)))
+    go [] some-held q = absurd (omega arith)
+    go (e ∷ es) some-held q = ap {B = Outcome} (λ (w : Option Page). evictAnswer (sweeping c w (rooms.enough (evicted c)))) q

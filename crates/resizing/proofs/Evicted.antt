@@ -1,8 +1,8 @@
 -- One eviction that is asked for comes to the model's: with nothing held there is none, and otherwise it is one sweep.
 use mathlib.Core.Path.{_≡_, refl, sym, ap, _∙_}
 use mathlib.Core.Bool.{true, false}
-use mathlib.Core.List.{List, [], _∷_}
-use mathlib.Core.Option.{Option, none, some}
+use mathlib.Core.List.{List, _∷_}
+use mathlib.Core.Option.{none, some}
 use Prim.Native.Nat.{ℕ, _≤_}
 use native.Mathlib.Nat.{add-zero}
 use native.Mathlib.Omega.{arith}
@@ -11,10 +11,9 @@ use lib.Seq.{set-split}
 use Rattle.page.specs.declared.cache.PageCache.{PageCache}
 use Rattle.page.specs.declared.names.PageHandle.{PageHandle}
 use Rattle.model.specs.Cache.{Cache}
-use Rattle.model.specs.Call.{Outcome, answer}
 use Rattle.model.specs.Rooms.{Room, sweepOf, evicted, enough, sweeping}
-use Rattle.model.specs.Row.{Page, Row}
-use Rattle.model.specs.Rules.{evictAnswer, evictFrom, onEvictOne}
+use Rattle.model.specs.Rules.{onEvictOne}
+use Rattle.model.proofs.Evictions.{evict-none, evict-some}
 use Rattle.memory.specs.Memory.{Memory}
 use Rattle.memory.specs.Holds.{Holds}
 use Rattle.answer.specs.Answer.{plainly, Comes}
@@ -25,19 +24,9 @@ use Rattle.eviction.specs.Room.{Made}
 use Rattle.eviction.proofs.Step.{took-is-the-sweep, full-is-the-sweep}
 use Rattle.resizing.proofs.Following.{made-comes}
 
--- ── the model's eviction ─────────────────────────────────────────────────────
-from-nothing : (row : Row) (c : Cache) → length row ≡ 0 → evictFrom row c ≡ answer 14 0 c
-from-nothing [] c q = refl
-from-nothing (e ∷ es) c q = absurd (omega arith)
-
-from-some : (row : Row) (c : Cache) → 1 ≤ length row → {v : Option Page} → sweepOf c .victim ≡ v
-    → evictFrom row c ≡ evictAnswer (sweeping c v (enough (evicted c)))
-from-some [] c h q = absurd (omega arith)
-from-some (e ∷ es) c h q = ap {B = Outcome} (λ (v : Option Page). evictAnswer (sweeping c v (enough (evicted c)))) q
-
 module _ {m : Memory} {head : PageCache} {c : Cache} (H : Holds m head c) {list : List ℕ} where
   pub evict-empty : head .held ≡ 0 → Comes (onEvictOne c) list m list (plainly Empty head)
-  evict-empty q = comes-as (from-nothing (c .row) c (held-is H ∙ q)) (plain-comes Empty H list)
+  evict-empty q = comes-as (evict-none c (held-is H ∙ q)) (plain-comes Empty H list)
 
   module _ (some-held : 1 ≤ head .held) {m′ : Memory} {n : ℕ} where
     -- none may go
@@ -46,7 +35,7 @@ module _ {m : Memory} {head : PageCache} {c : Cache} (H : Holds m head c) {list 
         let s = full-is-the-sweep H refused in
         let made : Made (sweeping c none (enough (evicted c))) list 0 m′ list (record { full = true; passed = n; listed = 0; head = head }) =
         record { full = refl; passed = s .passed; holds = s .holds; listed = refl; handles = refl } in
-        comes-as (from-some (c .row) c (omega (arith, held-is H)) (s .victim)) (made-comes Full made (s .holds))
+        comes-as (evict-some c (omega (arith, held-is H)) (s .victim)) (made-comes Full made (s .holds))
 
     -- a page goes, and its handle is listed
     pub evict-took : {handle : PageHandle} {head′ : PageCache} → Takes c m′ handle n head′ → 1 ≤ length list
@@ -58,4 +47,4 @@ module _ {m : Memory} {head : PageCache} {c : Cache} (H : Holds m head c) {list 
         set-split list 0 (handle .0) long ∙ ap {B = List ℕ} (λ (h : ℕ). h ∷ drop 1 list) (s .handle) in
         let made : Made room list 0 m′ (set list 0 (handle .0)) (record { full = false; passed = n; listed = 1; head = head′ }) =
         record { full = refl; passed = s .passed ∙ sym (add-zero (sweepOf c .passed)); holds = s .holds; listed = refl; handles = listed } in
-        comes-as (from-some (c .row) c (omega (arith, held-is H)) (s .victim)) (made-comes (Done 0) made (s .holds))
+        comes-as (evict-some c (omega (arith, held-is H)) (s .victim)) (made-comes (Done 0) made (s .holds))
