@@ -8,7 +8,7 @@ use mathlib.Core.Logic.{_≢_}
 use mathlib.Core.Option.{some}
 use Prim.Native.Nat.{ℕ, suc, _+_, _≤_, _<_}
 use native.Mathlib.Omega.{arith}
-use lib.ListN.{length, take, drop, set, length-append, length-map}
+use lib.ListN.{length, take, drop, set, length-append}
 use lib.Seq.{drop-cons, drop-drop, take-append-seam, drop-append-add, set-append-seam}
 use borrow.Author.Tests.{lt-ltb, le-ltb}
 use Rattle.page.specs.Record.{deletable}
@@ -25,6 +25,7 @@ use Rattle.model.specs.Tests.{asks, tooLarge, badRecord, shortList, handleElsew
 use Rattle.model.proofs.KeptTests.{Passes}
 use Rattle.memory.specs.Memory.{Memory}
 use Rattle.memory.specs.Holds.{Holds}
+use Rattle.memory.proofs.OnceKept.{holds-held}
 use Rattle.answer.specs.Answer.{codeOf, valueOf, refusedAs, plainly, Follows, Wrote, Comes}
 use Rattle.answer.specs.declared.answer.Answer.{Answer}
 use Rattle.answer.specs.declared.answered.Answered.{Answered}
@@ -58,15 +59,12 @@ module _ (call : Call) {c : Cache} where
 
 -- the tests of numbers, as the code makes them
 module _ {m : Memory} {head : PageCache} {c : Cache} (H : Holds m head c) where
-  pub held-is : heldIn c ≡ head .held
-  held-is = ap length (H .row) ∙ length-map (H .seats) _ ∙ sym (H .headed .held)
-
   module _ {places : ℕ} where
     pub list-short : places < head .held → shortList (some places) c ≡ true
-    list-short short = lt-ltb places (heldIn c) (omega (arith, held-is))
+    list-short short = lt-ltb places (heldIn c) (omega (arith, holds-held H))
 
     pub list-long : head .held ≤ places → shortList (some places) c ≡ false
-    list-long long = le-ltb places (heldIn c) (omega (arith, held-is))
+    list-long long = le-ltb places (heldIn c) (omega (arith, holds-held H))
 
   module _ {n : ℕ} where
     pub capacity-above : length (m .by-key) < n → tooLarge (some n) c ≡ true

@@ -13,7 +13,8 @@ use Rattle.model.specs.Rules.{emptied}
 use Rattle.memory.specs.Memory.{Memory}
 use Rattle.memory.specs.Holds.{Holds}
 use Rattle.memory.proofs.Reheaded.{reheaded}
-use Rattle.memory.proofs.Walks.{walk, walk-by-key, walk-fits}
+use Rattle.memory.specs.Walk.{walk}
+use Rattle.memory.proofs.Walks.{walk-by-key, walk-fits}
 use Rattle.answer.specs.Answer.{Wrote, Comes}
 use Rattle.answer.specs.declared.answer.Answer.the-variants as answers
 use Rattle.answer.proofs.Steps.{plain-follows, listing-follows, comes-as}
@@ -21,7 +22,7 @@ use Rattle.soundness.proofs.Joining.{holds-agreeing}
 use Rattle.creating.specs.Creation.{CreatedWell, done, too-large, bad-lengths, Creates}
 use Rattle.creating.specs.declared.creating.Created.{Created}
 use Rattle.creating.specs.declared.creating.Created.the-variants.{Done, BadLengths, TooLarge}
-use Rattle.clearing.specs.Clear.{walked, handlesOf}
+use Rattle.clearing.specs.Clear.{handlesOf}
 use Rattle.clearing.proofs.Handles.{handles-long}
 
 -- the head of a new cache with another switch
@@ -63,7 +64,7 @@ module _ {m : Memory} {head : PageCache} {c : Cache} (H : Holds m head c) where
           estimate = K .headed .estimate;
         })
 
-    pub clear-emptied : {list list′ : List ℕ} → Wrote (handlesOf (walked (m .slots) (m .by-key) (head .held))) list list′
+    pub clear-emptied : {list list′ : List ℕ} → Wrote (handlesOf (walk (m .slots) (m .by-key) (head .held))) list list′
         → Comes (emptied c) list m′ list′ (record { answer = answers.Done 0; passed = 0; listed = head .held; head = headSwitched (head .spill) new })
     clear-emptied {list} {list′} wrote =
         let handles : List ℕ = handlesOf (walk (m .slots) (m .by-key) (head .held)) in

@@ -8,10 +8,11 @@ use lib.Seq.{length-take-le}
 use Rattle.page.specs.declared.entry.PageCacheEntry.{PageCacheEntry}
 use Rattle.pool.specs.Slots.{blank, entries}
 use Rattle.model.specs.Row.{Entry}
-use Rattle.memory.proofs.Walks.{walk, walkAt, walk-more}
+use Rattle.memory.specs.Walk.{walk}
+use Rattle.memory.proofs.Walks.{walkAt, walk-more}
 use Rattle.answer.specs.Answer.{Wrote}
 use Rattle.answer.proofs.Steps.{wrote-none, wrote-next}
-use Rattle.clearing.specs.Clear.{walked, handlesOf, Listable}
+use Rattle.clearing.specs.Clear.{handlesOf, Listable}
 
 -- the list has the handles of the first i pages of the walk, and other places keep their values
 pub record Listing (slots by-key list : List ℕ) (n : ℕ) (list′ : List ℕ) (i : ℕ) : Type 0 where
@@ -46,7 +47,7 @@ module _ {slots by-key list : List ℕ} {n : ℕ} {list′ : List ℕ} {i : ℕ}
             (rw one (wrote-next (g .wrote) (e .handle .0) (omega (arith, counted, can .long))));
       }
 
-  pub listing-done : n ≤ i → Wrote (handlesOf (walked slots by-key n)) list list′
+  pub listing-done : n ≤ i → Wrote (handlesOf (walk slots by-key n)) list list′
   listing-done end =
       let whole : i ≡ n = omega (arith, g .within) in
       subst (λ (k : ℕ). Wrote (handlesOf (walk slots by-key k)) list list′) whole (g .wrote)

@@ -20,11 +20,12 @@ use Rattle.model.specs.Row.{Page, Row, byKey, those}
 use Rattle.model.specs.Rules.{emptied, clearUnless, onClear}
 use Rattle.memory.specs.Memory.{Memory}
 use Rattle.memory.specs.Holds.{Holds}
-use Rattle.memory.proofs.Walks.{walk, walkAt, walkFrom, walk-by-key, walk-next, walked-none, walked-past, walked-split, those-one}
+use Rattle.memory.specs.Walk.{walk}
+use Rattle.memory.proofs.Walks.{walkAt, walkFrom, walk-by-key, walk-next, walked-none, walked-past, walked-split, those-one}
 use Rattle.answer.specs.Answer.{plainly, Comes}
 use Rattle.answer.specs.declared.answer.Answer.the-variants as answers
 use Rattle.answer.proofs.Steps.{plain-comes, comes-as}
-use Rattle.clearing.specs.Clear.{walked, hindering, First, FirstIs}
+use Rattle.clearing.specs.Clear.{hindering, First, FirstIs}
 use Rattle.clearing.specs.declared.clearing.Hindrance.{Hindrance}
 use Rattle.clearing.specs.declared.clearing.Hindrance.the-variants.{Nothing, Dirty}
 
@@ -54,7 +55,7 @@ module _ {slots by-key : List ℕ} {n i : ℕ} (index : Index (names Key (entrie
       none = walked-past isDirty slots by-key i (clean-place more) (asked-at ∙ no-dirt) ∙ g .none;
     }
 
-    pub clean-ends : b ≡ true → First (those isDirty (walked slots by-key n)) (e .key .0)
+    pub clean-ends : b ≡ true → First (those isDirty (walk slots by-key n)) (e .key .0)
     clean-ends dirt = record {
       page = walkAt slots by-key i .page;
       rest = those isDirty (walkFrom slots by-key (i + 1) n);
@@ -66,7 +67,7 @@ module _ {slots by-key : List ℕ} {n i : ℕ} (index : Index (names Key (entrie
       named = ap (λ (x : PageCacheEntry). x .key .0) loaded;
     }
 
-  pub clean-done : n ≤ i → those isDirty (walked slots by-key n) ≡ []
+  pub clean-done : n ≤ i → those isDirty (walk slots by-key n) ≡ []
   clean-done end =
       let whole : i ≡ n = omega (arith, g .within) in
       ap (λ (k : ℕ). those isDirty (walk slots by-key k)) (sym whole) ∙ g .none
@@ -86,7 +87,7 @@ by-hindrance false c = refl
 
 module _ (dirty-too : Bool) {m : Memory} {head : PageCache} {c : Cache} (H : Holds m head c) where
   abbrev stand : List Page
-  stand = hindering dirty-too (walked (m .slots) (m .by-key) (head .held))
+  stand = hindering dirty-too (walk (m .slots) (m .by-key) (head .held))
 
   walks-index : onClear dirty-too c ≡ clearUnless stand c
   walks-index = by-hindrance dirty-too c ∙ ap {B = Outcome} (λ (row : Row). clearUnless (hindering dirty-too row) c) (walk-by-key H)

@@ -3,20 +3,15 @@ use mathlib.Core.Path.{_≡_}
 use mathlib.Core.Bool.{Bool, true, false}
 use mathlib.Core.List.{List, [], _∷_, map}
 use Prim.Native.Nat.{ℕ, _≤_}
-use lib.ListN.{length, take}
+use lib.ListN.{length}
 use Rattle.page.specs.Record.{dirty}
 use Rattle.pool.specs.Slots.{entries}
 use Rattle.order.specs.Index.{Index}
 use Rattle.order.specs.Names.{names}
 use Rattle.order.specs.declared.search.By.the-variants.{Key}
 use Rattle.model.specs.Row.{Page, Row, those}
-use Rattle.memory.specs.Holds.{rowOf}
 use Rattle.clearing.specs.declared.clearing.Hindrance.{Hindrance}
 use Rattle.clearing.specs.declared.clearing.Hindrance.the-variants.{Nothing, Dirty}
-
--- the entries of the n slots of the index, by ascending key
-abbrev pub walked : (slots by-key : List ℕ) → ℕ → Row
-walked slots by-key n = rowOf (entries slots) (take n by-key)
 
 abbrev pub handlesOf : Row → List ℕ
 handlesOf row = map (λ e. e .page .handle) row

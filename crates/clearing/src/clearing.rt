@@ -17,8 +17,9 @@ ghost use Rattle.model.specs.Rules.{emptied};
 ghost use Rattle.model.specs.Step.{step};
 ghost use Rattle.memory.specs.Memory.{memory, memories};
 ghost use Rattle.memory.specs.Holds.{Holds, Sound};
+ghost use Rattle.memory.specs.Walk.{walk};
 ghost use Rattle.answer.specs.Answer.{Ready, Wrote, Comes};
-ghost use Rattle.clearing.specs.Clear.{walked, handlesOf, hindering, FirstIs, Listable};
+ghost use Rattle.clearing.specs.Clear.{handlesOf, hindering, FirstIs, Listable};
 
 // What keeps the pages from being removed.
 enum Hindrance {
@@ -53,7 +54,7 @@ pub fn clear(
 // Nothing, if dirty pages are to go too, and otherwise the first dirty page.
 fn what_hinders(by_key: &[u32], slots: &[u64], held: u32, dirty_too: bool) -> Hindrance
     requires { ⌜ Index (names Key (entries (now slots))) (now «by_key») held ⌝ }
-    ensures { λ r. ⌜ FirstIs (hindering «dirty_too» (walked (now (slots .entry)) (now («by_key» .entry)) held)) r ⌝ }
+    ensures { λ r. ⌜ FirstIs (hindering «dirty_too» (walk (now (slots .entry)) (now («by_key» .entry)) held)) r ⌝ }
 {
     if dirty_too {
         return Hindrance::Nothing;
@@ -64,7 +65,7 @@ fn what_hinders(by_key: &[u32], slots: &[u64], held: u32, dirty_too: bool) -> Hi
 // The first dirty page of the n pages of the index, or nothing.
 fn first_dirty(by_key: &[u32], slots: &[u64], n: usize) -> Hindrance
     requires { ⌜ Index (names Key (entries (now slots))) (now «by_key») n ⌝ }
-    ensures { λ r. ⌜ FirstIs (hindering false (walked (now (slots .entry)) (now («by_key» .entry)) n)) r ⌝ }
+    ensures { λ r. ⌜ FirstIs (hindering false (walk (now (slots .entry)) (now («by_key» .entry)) n)) r ⌝ }
 {
     let mut i = 0;
     while i < n {
@@ -109,7 +110,7 @@ fn empty(
 // Writes the handles of the n pages of the index into the first places of the list.
 fn list_handles(list: &mut [u32], by_key: &[u32], slots: &[u64], n: usize)
     requires { ⌜ Listable (now slots) (now «by_key») (now list) n ⌝ }
-    ensures { λ _. ⌜ Wrote (handlesOf (walked (now (slots .entry)) (now («by_key» .entry)) n)) (now (list .entry)) (now (list .exit)) ⌝ }
+    ensures { λ _. ⌜ Wrote (handlesOf (walk (now (slots .entry)) (now («by_key» .entry)) n)) (now (list .entry)) (now (list .exit)) ⌝ }
 {
     let mut i = 0;
     while i < n {

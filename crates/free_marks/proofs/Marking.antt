@@ -72,13 +72,14 @@ module _ (m : List ℕ) (s : ℕ) (inside : s / 64 < length m) where
       (λ i h ne. and-digit old (2 ^ 64 - 1 - one) i ∙ ap (min (digit old i)) (not-digit 64 one i one-fits h ∙ ap (λ (x : ℕ). 1 - x) (one-else i ne)) ∙ min-one _)
 
 -- ── the lowest free slot ─────────────────────────────────────────────────────
+-- no mark is both 0 and 1
+pub clash : {x : ℕ} → x ≡ 0 → x ≡ 1 → ⊥
+clash p q = omega arith
+
 -- a mark of 1 stands in a word that is there
 pub free-inside : (m : List ℕ) (k : ℕ) → bitAt m k ≡ 1 → k / 64 < length m
 free-inside m k e = go (decLt (k / 64) (length m))
   where
-    clash : {x : ℕ} → x ≡ 0 → x ≡ 1 → ⊥
-    clash p q = omega arith
-
     go : Dec (k / 64 < length m) → k / 64 < length m
     go (yes h) = h
     go (no h) = absurd (clash (ap (λ (x : ℕ). digit x (k % 64)) (List·getD-eq-default m 0 (omega arith)) ∙ digit-of-none (k % 64)) e)
@@ -103,9 +104,6 @@ module _ {m : List ℕ} {s : ℕ} (below : HeldBelow m s) where
   pub below-not : {k : ℕ} → bitAt m k ≡ 1 → s ≤ k
   below-not {k} e = go (decLt k s)
     where
-      clash : {x : ℕ} → x ≡ 0 → x ≡ 1 → ⊥
-      clash p q = omega arith
-
       go : Dec (k < s) → s ≤ k
       go (yes h) = absurd (clash (below .each k h) e)
       go (no h) = omega arith

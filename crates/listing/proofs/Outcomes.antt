@@ -9,23 +9,24 @@ use Rattle.page.specs.declared.cache.PageCache.{PageCache}
 use Rattle.model.specs.Cache.{Cache}
 use Rattle.memory.specs.Memory.{Memory}
 use Rattle.memory.specs.Holds.{Holds}
+use Rattle.memory.proofs.OnceKept.{holds-held}
 use Rattle.listing.specs.declared.testing.Admission.{Admission}
 use Rattle.listing.specs.declared.testing.Listing.{Listing}
 use Rattle.listing.specs.declared.testing.Listing.the-variants.{Done, NotSound, ShortList}
 use Rattle.listing.specs.declared.listed.ListedPage.{ListedPage}
 use Rattle.listing.specs.Listing.{Form, inNumbers, inRecords, Listable, Filled, Lists}
 use Rattle.listing.specs.Outcome.{codeOf, valueOf, Verdict, all-listed, not-sound, too-short, Admits, Comes}
-use Rattle.listing.proofs.Sweeping.{row-stands, row-held}
+use Rattle.listing.proofs.Sweeping.{row-stands}
 
 -- ── a cache ──────────────────────────────────────────────────────────────────
 module _ {A : Type 0} (F : Form A) {m : Memory} {head : PageCache} {c : Cache} (g : Holds m head c) where
   -- its pages may be listed, from the hand on
   pub cache-listable : {list : List A} → F .places (head .held) ≤ length list → Listable F (m .slots) (head .hand .0) (head .held) list
-  cache-listable room = record { row = c .row; stands = row-stands g; count = row-held g; room = room }
+  cache-listable room = record { row = c .row; stands = row-stands g; count = holds-held g; room = room }
 
   -- and then its row is listed
   pub cache-listed : {before after : List A} → Lists F (m .slots) (head .hand .0) (head .held) before after → Filled F (c .row) before after
-  cache-listed lists = lists (c .row) (row-stands g) (row-held g)
+  cache-listed lists = lists (c .row) (row-stands g) (holds-held g)
 
 -- ── from the verdict to the answer ───────────────────────────────────────────
 -- the list has places for `space` pages and no more, and an empty row takes no place

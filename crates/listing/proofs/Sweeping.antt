@@ -3,17 +3,17 @@
 use mathlib.Core.Path.{_≡_, refl, sym, _∙_, subst}
 use mathlib.Core.List.{List, [], _∷_}
 use Prim.Native.Nat.{ℕ, zero, suc, _<_}
-use lib.ListN.{length, getD, length-map}
+use lib.ListN.{length, length-map}
 use Rattle.page.specs.declared.cache.PageCache.{PageCache}
 use Rattle.page.specs.declared.entry.PageCacheEntry.{PageCacheEntry}
-use Rattle.pool.specs.Slots.{blank, entries}
+use Rattle.pool.specs.Slots.{entries}
 use Rattle.ring_links.specs.Ring.{Below, Way, firstOf}
 use Rattle.ring_links.specs.Links.{RingOf, nexts, prevs, nextAt}
 use Rattle.ring_links.proofs.Columns.{next-at}
-use Rattle.model.specs.Cache.{Cache, heldIn}
+use Rattle.model.specs.Cache.{Cache}
 use Rattle.model.specs.Row.{Row}
 use Rattle.memory.specs.Memory.{Memory}
-use Rattle.memory.specs.Holds.{seen, rowOf, Holds}
+use Rattle.memory.specs.Holds.{rowOf, Holds}
 use Rattle.listing.specs.declared.listed.ListedPage.{ListedPage}
 use Rattle.listing.specs.Listing.{pageOf, pagesOf, ringPageAt, Stands}
 
@@ -52,6 +52,3 @@ module _ (es : List PageCacheEntry) where
 module _ {m : Memory} {head : PageCache} {c : Cache} (g : Holds m head c) where
   pub row-stands : Stands (entries (m .slots)) (head .hand .0) (c .row)
   row-stands = rw (g .row, g .headed .hand) (stands-ring (entries (m .slots)) (g .seats) (g .seated .ring))
-
-  pub row-held : heldIn c ≡ head .held
-  row-held = rw (g .row, g .headed .held) (length-map (g .seats) (λ s. seen s (getD (entries (m .slots)) s blank)))

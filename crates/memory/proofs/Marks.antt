@@ -13,6 +13,7 @@ use Rattle.page.specs.declared.entry.PageCacheEntry.{PageCacheEntry}
 use Rattle.ring_links.specs.Ring.{has, Out}
 use Rattle.pool.specs.Slots.{blank}
 use Rattle.free_marks.specs.Marks.{bitAt, MarkedAs, SomeFree, LowestFree}
+use Rattle.free_marks.proofs.Marking.{clash}
 use Rattle.order.proofs.Membership.{has-here, has-skip, has-out, out-has, has-mid}
 use Rattle.model.specs.Cache.{slotTaken, lowestFree}
 use Rattle.model.proofs.KeptSlots.{lowest-bound, lowest-lower, lowest-free}
@@ -82,9 +83,6 @@ module _ (es : List PageCacheEntry) {marks : List ℕ} {size : ℕ} {seats : Lis
   }
 
   module _ {s : ℕ} (lowest : LowestFree marks s) where
-    clash : {n : ℕ} → n ≡ 0 → n ≡ 1 → ⊥
-    clash p q = omega arith
-
     pub lowest-inside : s < size
     lowest-inside = go (decLt s size)
       where

@@ -2,7 +2,7 @@
 -- but the links, which the ring of the seats determines, and the spare byte, which is 0.
 use mathlib.Core.Path.{_≡_, refl, sym, ap, _∙_}
 use mathlib.Core.Logic.{_⊎_, inl, inr, ⊎-elim}
-use mathlib.Core.List.{List, [], _∷_, map}
+use mathlib.Core.List.{List, [], _∷_, map, head-eq-of-cons-eq, tail-eq-of-cons-eq}
 use Prim.Native.Nat.{ℕ}
 use native.Mathlib.Decide.{ℕ-discrete}
 use lib.ListN.{length, getD}
@@ -13,7 +13,7 @@ use Rattle.ring_links.specs.Ring.{Out}
 use Rattle.pool.specs.Slots.{blank}
 use Rattle.ring_links.proofs.Columns.{next-at, prev-at}
 use Rattle.ring_links.proofs.Rows.{next-at-only, prev-at-only}
-use Rattle.model.specs.Row.{Entry, Row}
+use Rattle.model.specs.Row.{Entry}
 use Rattle.memory.specs.Holds.{Seated, seen, rowOf}
 
 -- the seats are the slots of the row
@@ -25,17 +25,11 @@ row-slots es (s ∷ seats) = ap {B = List ℕ} (λ (l : List ℕ). s ∷ l) (row
 row-at : (es es′ : List PageCacheEntry) (seats : List ℕ) → rowOf es seats ≡ rowOf es′ seats → (k : ℕ)
     → Out k seats ⊎ (seen k (getD es k blank) ≡ seen k (getD es′ k blank))
 row-at es es′ [] rows k = inl tt
-row-at es es′ (s ∷ seats) rows k = here (ℕ-discrete k s) (row-at es es′ seats (tail rows) k)
+row-at es es′ (s ∷ seats) rows k = here (ℕ-discrete k s) (row-at es es′ seats (tail-eq-of-cons-eq rows) k)
   where
-    head : {x y : Entry} {xs ys : Row} → x ∷ xs ≡ y ∷ ys → x ≡ y
-    head e = cc
-
-    tail : {x y : Entry} {xs ys : Row} → x ∷ xs ≡ y ∷ ys → xs ≡ ys
-    tail e = cc
-
     here : Dec (k ≡ s) → Out k seats ⊎ (seen k (getD es k blank) ≡ seen k (getD es′ k blank))
         → Out k (s ∷ seats) ⊎ (seen k (getD es k blank) ≡ seen k (getD es′ k blank))
-    here (yes e) t = inr (rw e (head rows))
+    here (yes e) t = inr (rw e (head-eq-of-cons-eq rows))
     here (no ne) (inl o) = inl (ne, o)
     here (no ne) (inr q) = inr q
 

@@ -9,6 +9,7 @@ use Rattle.page.specs.Cache.{maxSlots}
 use Rattle.page.specs.declared.cache.PageCache.{PageCache}
 use Rattle.free_marks.specs.Marks.{bitAt}
 use Rattle.free_marks.proofs.Digits.{digit, digit-of-none}
+use Rattle.free_marks.proofs.Marking.{clash}
 use Rattle.memory.specs.Memory.{Memory}
 use Rattle.memory.specs.Holds.{Lengths, Marked, Sound}
 
@@ -36,6 +37,3 @@ pub zero-unsound : {m : Memory} {head : PageCache} → ((w : ℕ) → getD (m .m
 zero-unsound {m} zeros none s =
     clash (ap (λ (x : ℕ). digit x 0) (zeros 0) ∙ digit-of-none 0)
     (marked-first (s .holds .seats) (sym (s .holds .headed .held) ∙ none) (s .holds .limits .some) (s .holds .marked))
-  where
-    clash : {x : ℕ} → x ≡ 0 → x ≡ 1 → ⊥
-    clash p q = omega arith

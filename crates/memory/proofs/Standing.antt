@@ -2,11 +2,10 @@
 -- and finding, changing and removing by key speak of one seat.
 use mathlib.Core.Path.{_≡_, refl, sym, ap, _∙_, subst}
 use mathlib.Core.Bool.{true}
-use mathlib.Core.List.{List, [], _∷_, _++_}
+use mathlib.Core.List.{List, [], _∷_, _++_, nil≢cons, head-eq-of-cons-eq, tail-eq-of-cons-eq}
 use mathlib.Core.Logic.{⊎-elim}
 use mathlib.Core.Option.{some}
 use Prim.Native.Nat.{ℕ, _<_}
-use native.Mathlib.Omega.{arith}
 use lib.ListN.{length, getD, length-map}
 use Rattle.page.specs.declared.cache.PageCache.{PageCache}
 use Rattle.page.specs.declared.entry.PageCacheEntry.{PageCacheEntry}
@@ -42,36 +41,27 @@ record Cut (es : List PageCacheEntry) (seats : List ℕ) (s : ℕ) (before : Row
   entry-is : e ≡ seen s (getD es s blank)
   after-is : after ≡ rowOf es back
 
-nothing-cut : {e : Entry} {row : Row} → _≡_ {A = Row} [] (e ∷ row) → ⊥
-nothing-cut q = omega (arith, ap length q)
-
-head-is : {x y : Entry} {xs ys : Row} → x ∷ xs ≡ y ∷ ys → x ≡ y
-head-is q = cc
-
-tail-is : {x y : Entry} {xs ys : Row} → x ∷ xs ≡ y ∷ ys → xs ≡ ys
-tail-is q = cc
-
 cut : (es : List PageCacheEntry) (s : ℕ) (seats : List ℕ) (before : Row) (e : Entry) (after : Row) → rowOf es seats ≡ before ++ e ∷ after
     → e .page .slot ≡ s → Cut es seats s before e after
-cut es s [] [] e after q slot = absurd (nothing-cut q)
-cut es s [] (x ∷ before) e after q slot = absurd (nothing-cut q)
+cut es s [] [] e after q slot = absurd (nil≢cons q)
+cut es s [] (x ∷ before) e after q slot = absurd (nil≢cons q)
 cut es s (t ∷ seats) [] e after q slot =
-    let same : t ≡ s = ap (λ (x : Entry). x .page .slot) (head-is q) ∙ slot in
+    let same : t ≡ s = ap (λ (x : Entry). x .page .slot) (head-eq-of-cons-eq q) ∙ slot in
     record {
       front = [];
       back = seats;
       seats-are = ap {B = List ℕ} (λ (k : ℕ). k ∷ seats) same;
       before-is = refl;
-      entry-is = sym (head-is q) ∙ ap {B = Entry} (λ (k : ℕ). seen k (getD es k blank)) same;
-      after-is = sym (tail-is q);
+      entry-is = sym (head-eq-of-cons-eq q) ∙ ap {B = Entry} (λ (k : ℕ). seen k (getD es k blank)) same;
+      after-is = sym (tail-eq-of-cons-eq q);
     }
 cut es s (t ∷ seats) (x ∷ before) e after q slot =
-    let rest = cut es s seats before e after (tail-is q) slot in
+    let rest = cut es s seats before e after (tail-eq-of-cons-eq q) slot in
     record {
       front = t ∷ rest .front;
       back = rest .back;
       seats-are = ap {B = List ℕ} (λ (l : List ℕ). t ∷ l) (rest .seats-are);
-      before-is = λ i. sym (head-is q) i ∷ rest .before-is i;
+      before-is = λ i. sym (head-eq-of-cons-eq q) i ∷ rest .before-is i;
       entry-is = rest .entry-is;
       after-is = rest .after-is;
     }

@@ -30,6 +30,7 @@ use Rattle.model.specs.Cache.{Cache}
 use Rattle.model.specs.Row.{Page, Entry, Row, sortIn, byKey, those}
 use Rattle.memory.specs.Memory.{Memory}
 use Rattle.memory.specs.Holds.{seen, rowOf, Holds}
+use Rattle.memory.specs.Walk.{walk}
 
 -- ── one page is sorted in ────────────────────────────────────────────────────
 module _ (es : List PageCacheEntry) where
@@ -136,10 +137,6 @@ module _ (es : List PageCacheEntry) where
       (sorted seats (apart .1) (inside .1) (λ j k g h e. tells j k (has-there j s seats g) (has-there k s seats h) e))
 
 -- ── the walk ─────────────────────────────────────────────────────────────────
--- its first n entries
-abbrev pub walk : (slots by-key : List ℕ) → ℕ → Row
-walk slots by-key n = rowOf (entries slots) (take n by-key)
-
 -- its entry at place i: that of the slot which the index has there
 abbrev pub walkAt : (slots by-key : List ℕ) → ℕ → Entry
 walkAt slots by-key i = seen (getD by-key i 0) (getD (entries slots) (getD by-key i 0) blank)

@@ -1,2 +1,3 @@
 pub mod Memory
 pub mod Holds
+pub mod Walk

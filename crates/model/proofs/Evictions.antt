@@ -9,7 +9,6 @@ use native.Mathlib.Omega.{arith}
 use lib.Dec.{ltb}
 use lib.ListN.{length}
 use borrow.Author.Tests.{ltb-true, ltb-false}
-use Rattle.page.specs.Entry.{refMax}
 use Rattle.model.specs.Row.{Page, Entry, Row, Each, total}
 use Rattle.model.specs.Sweep.{Swept, lower, sweepFalls}
 use Rattle.model.specs.Demand.{Limited, MayGo, Stays, Victim, taken, refused, Evicts}
@@ -23,7 +22,7 @@ use Rattle.model.specs.Rules.{evictAnswer, evictFrom, onEvictOne}
 use Rattle.model.specs.Evictions.{Loses, EachLoses, OneGoes, NoneGoes, EvictsTo, enough, full, takes}
 use Rattle.model.proofs.Evicts.{sweep-evicts, evicts-once, passed-bound, loses, stays-loses}
 use Rattle.model.proofs.KeptCases.{either}
-use Rattle.model.proofs.KeptRooms.{kept-limited, evicted-kept, evicted-held, failed-room-unchanged}
+use Rattle.model.proofs.KeptRooms.{kept-limited, evicted-kept, evicted-fewer, failed-room-unchanged}
 use Rattle.model.proofs.Totals.{sweep-total}
 
 -- ── what the others lose ─────────────────────────────────────────────────────
@@ -142,11 +141,8 @@ module _ (target : ℕ) where
   unfolding evictions
   evictions-evict zero c few k = enough {c = c} (omega arith)
   evictions-evict (suc n) c few k = either (EvictsTo target c) (ltb target (heldIn c))
-      (λ more. sweeping-evicts c _ k (ltb-true target (heldIn c) more) (λ p q. evictions-evict n (evicted c) (fewer p q) (evicted-kept c k)))
+      (λ more. sweeping-evicts c _ k (ltb-true target (heldIn c) more) (λ p q. evictions-evict n (evicted c) (evicted-fewer c k few p q) (evicted-kept c k)))
       (λ no-more. enough (ltb-false target (heldIn c) no-more))
-    where
-      fewer : (p : Page) → sweepOf c .victim ≡ some p → heldIn (evicted c) ≤ n
-      fewer p q = omega (arith, evicted-held c k p q)
 
   -- evict while held > target
   pub evict-to-evicts : (c : Cache) → Kept c → EvictsTo target c (evictTo target c)

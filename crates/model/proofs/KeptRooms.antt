@@ -72,6 +72,9 @@ module _ (c : Cache) (k : Kept c) where
   pub evicted-held : (p : Page) → sweepOf c .victim ≡ some p → suc (heldIn (evicted c)) ≡ heldIn c
   evicted-held p q = held-after pageMayGo (c .row) p kept-limited q
 
+  pub evicted-fewer : {n : ℕ} → heldIn c ≤ suc n → (p : Page) → sweepOf c .victim ≡ some p → heldIn (evicted c) ≤ n
+  evicted-fewer few p q = omega (arith, evicted-held p q)
+
 -- ── evictions ────────────────────────────────────────────────────────────────
 -- what evictions from c down to a target come to
 pub record Makes (target : ℕ) (c : Cache) (r : Room) : Type 1 where
@@ -117,11 +120,8 @@ module _ (target : ℕ) where
   unfolding evictions
   evictions-make zero c l k = makes-enough c k (omega arith)
   evictions-make (suc n) c l k = either (Makes target c) (ltb target (heldIn c))
-      (λ _. makes-sweeping c _ (sweepOf c .victim) k refl (λ p q. evictions-make n (evicted c) (fewer p q) (evicted-kept c k)))
+      (λ _. makes-sweeping c _ (sweepOf c .victim) k refl (λ p q. evictions-make n (evicted c) (evicted-fewer c k l p q) (evicted-kept c k)))
       (λ h. makes-enough c k (ltb-false target (heldIn c) h))
-    where
-      fewer : (p : Page) → sweepOf c .victim ≡ some p → heldIn (evicted c) ≤ n
-      fewer p q = omega (arith, evicted-held c k p q)
 
   -- evict while held > target
   pub evict-makes : (c : Cache) → Kept c → Makes target c (evictTo target c)

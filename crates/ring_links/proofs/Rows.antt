@@ -1,7 +1,7 @@
 -- The links determine the row and the row the links: a way goes on as its links say, and a slot that the row does not
 -- have has links of zero.
 use mathlib.Core.Path.{_≡_, refl, sym, ap, _∙_, subst}
-use mathlib.Core.Bool.{Bool, true, false, _||_}
+use mathlib.Core.Bool.{Bool, _||_, or-assoc, or-comm}
 use mathlib.Core.Logic.{_⊎_, inl, inr, ⊎-elim}
 use mathlib.Core.List.{List, [], _∷_, _++_}
 use Prim.Native.Nat.{ℕ}
@@ -13,16 +13,6 @@ use Rattle.ring_links.specs.Ring.{Ring, Out, Way, Round, has, firstOf}
 use Rattle.ring_links.proofs.Rings.{turns, Ended, ended}
 
 -- ── members ──────────────────────────────────────────────────────────────────
-or-assoc : (a b c : Bool) → (a || b) || c ≡ a || (b || c)
-or-assoc true b c = refl
-or-assoc false b c = refl
-
-or-comm : (a b : Bool) → a || b ≡ b || a
-or-comm true true = refl
-or-comm true false = refl
-or-comm false true = refl
-or-comm false false = refl
-
 pub has-append : (k : ℕ) (xs ys : List ℕ) → has k (xs ++ ys) ≡ has k xs || has k ys
 has-append k [] ys = refl
 has-append k (x ∷ xs) ys = ap (λ (b : Bool). eqb k x || b) (has-append k xs ys) ∙ sym (or-assoc (eqb k x) (has k xs) (has k ys))

@@ -1,7 +1,7 @@
 -- A list of different numbers that pass a test is no longer than the number of all that pass it; and if it is as long, it has
 -- all of them.
 use mathlib.Core.Path.{_≡_, refl, sym, ap, _∙_}
-use mathlib.Core.Bool.{Bool, true, false, not, _&&_, true≢false}
+use mathlib.Core.Bool.{Bool, true, false, not, _&&_, true≢false, and-true, and-false}
 use mathlib.Core.Logic.{⊎-elim}
 use mathlib.Core.List.{List, [], _∷_}
 use Prim.Native.Nat.{ℕ, zero, suc, _≤_, _<_}
@@ -18,14 +18,6 @@ use Rattle.soundness.specs.Checks.{tick, countBelow}
 -- ── the test without one number ──────────────────────────────────────────────
 minus : (ℕ → Bool) → ℕ → ℕ → Bool
 minus f a k = f k && not (eqb k a)
-
-and-true : (b : Bool) → b && true ≡ b
-and-true true = refl
-and-true false = refl
-
-and-false : (b : Bool) → b && false ≡ false
-and-false true = refl
-and-false false = refl
 
 minus-here : (f : ℕ → Bool) (a : ℕ) → minus f a a ≡ false
 unfolding minus

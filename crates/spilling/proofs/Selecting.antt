@@ -15,7 +15,8 @@ use Rattle.model.specs.Row.{Page, Row, those}
 use Rattle.model.specs.Spill.{pageSpillable, selection}
 use Rattle.memory.specs.Memory.{Memory}
 use Rattle.memory.specs.Holds.{Holds}
-use Rattle.memory.proofs.Walks.{walk, walkAt, walkFrom, walked-none, walked-one, walked-past, walked-split}
+use Rattle.memory.specs.Walk.{walk}
+use Rattle.memory.proofs.Walks.{walkAt, walkFrom, walked-none, walked-one, walked-past, walked-split}
 use Rattle.answer.specs.Answer.{Wrote}
 use Rattle.spilling.specs.Parts.{Readable, Selected}
 use Rattle.spilling.proofs.Walking.{readable-place, Met, met-none, pageOf, loaded-page, met-one, met-past, whole-walk}

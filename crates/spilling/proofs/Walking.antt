@@ -13,7 +13,8 @@ use Rattle.model.specs.Cache.{Cache}
 use Rattle.model.specs.Row.{Page, Row, byKey, those}
 use Rattle.memory.specs.Memory.{Memory}
 use Rattle.memory.specs.Holds.{seen, Holds}
-use Rattle.memory.proofs.Walks.{walk, walkAt, walk-by-key, walk-fits, walk-inside, walked-none, walked-one, walked-past}
+use Rattle.memory.specs.Walk.{walk}
+use Rattle.memory.proofs.Walks.{walkAt, walk-by-key, walk-fits, walk-inside, walked-none, walked-one, walked-past}
 use Rattle.spilling.specs.Parts.{Readable, Place}
 use Rattle.spilling.proofs.Counts.{by-key-count}
 

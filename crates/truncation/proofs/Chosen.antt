@@ -24,7 +24,8 @@ use Rattle.model.specs.Row.{Page, byKey, those}
 use Rattle.order.proofs.Names.{index-slot}
 use Rattle.memory.specs.Memory.{Memory}
 use Rattle.memory.specs.Holds.{Holds}
-use Rattle.memory.proofs.Walks.{walk, walkFrom, walk-by-key, walk-fits, walked-none, walked-past, walked-split}
+use Rattle.memory.specs.Walk.{walk}
+use Rattle.memory.proofs.Walks.{walkFrom, walk-by-key, walk-fits, walked-none, walked-past, walked-split}
 use Rattle.truncation.specs.Deletions.{chooses, pageAt, NoneBefore, FirstAbove}
 use Rattle.truncation.specs.declared.deletions.Which.{Which}
 use Rattle.truncation.specs.declared.deletions.Which.the-variants.{KeysAbove}

@@ -12,10 +12,10 @@ use Rattle.model.specs.Cache.{Cache, leave}
 use Rattle.model.specs.Row.{Entry, Row, byKey}
 use Rattle.memory.specs.Memory.{Memory}
 use Rattle.memory.specs.Holds.{Holds}
-use Rattle.memory.proofs.OnceKept.{holds-keys-apart}
+use Rattle.memory.proofs.OnceKept.{holds-held, holds-keys-apart}
 use Rattle.memory.proofs.Standing.{seat-found}
-use Rattle.memory.proofs.Walks.{walk, walkAt, walkFrom, walk-by-key, walk-fits, walk-split, walk-next}
-use Rattle.answer.proofs.Steps.{held-is}
+use Rattle.memory.specs.Walk.{walk}
+use Rattle.memory.proofs.Walks.{walkAt, walkFrom, walk-by-key, walk-fits, walk-split, walk-next}
 use Rattle.moves.specs.Moves.{StandsAt}
 use Rattle.model.proofs.WalkWithout.{without-length, walk-without}
 
@@ -42,7 +42,7 @@ module _ {m : Memory} {head : PageCache} {c : Cache} (H : Holds m head c) (i : �
 
   module _ {m′ : Memory} {head′ : PageCache} (H′ : Holds m′ head′ (leave (here .page) c)) where
     pub place-held : head′ .held + 1 ≡ head .held
-    place-held = omega (arith, held-is H′, held-is H, without-length (c .row) (holds-keys-apart H) (place-stands .found))
+    place-held = omega (arith, holds-held H′, holds-held H, without-length (c .row) (holds-keys-apart H) (place-stands .found))
 
     pub place-closed : walkFrom (m′ .slots) (m′ .by-key) i (head′ .held) ≡ later
     place-closed =
