@@ -11,6 +11,7 @@ use lib.Dec.{ltb}
 use lib.ListN.{length, drop}
 use borrow.Author.Tests.{ltb-true, ltb-false, le-ltb}
 use Rattle.page.specs.declared.cache.PageCache.{PageCache}
+use Rattle.page.proofs.Each.{each-middle}
 use Rattle.model.specs.Cache.{Cache, heldIn, pageMayGo}
 use Rattle.model.specs.Call.{Call, evict-one, Outcome, answer}
 use Rattle.model.specs.Demand.{Stays, Victim, taken, refused, Evicts}
@@ -27,7 +28,6 @@ use Rattle.model.proofs.Evictions.{goes, none-goes, evict-none, evict-some}
 use Rattle.model.proofs.Evicts.{sweep-evicts}
 use Rattle.model.proofs.Exact.{step-counts}
 use Rattle.model.proofs.KeptRooms.{kept-limited, failed-room-unchanged}
-use Rattle.model.proofs.Rows.{each-middle}
 use Rattle.memory.specs.Holds.{Holds}
 use Rattle.answer.specs.Answer.{Comes, codeOf, valueOf}
 use Rattle.answer.proofs.Steps.{step-acts, step-short-list, comes-as}

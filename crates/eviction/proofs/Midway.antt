@@ -9,6 +9,7 @@ use lib.ListN.{length, length-append}
 use Rattle.page.specs.Entry.{refMax}
 use Rattle.page.specs.declared.entry.PageCacheEntry.{PageCacheEntry}
 use Rattle.page.specs.declared.names.Slot.{Slot}
+use Rattle.page.proofs.Each.{each-append}
 use Rattle.ring_links.specs.Ring.{has}
 use Rattle.pool.specs.Slots.{entries}
 use Rattle.ring_links.proofs.Columns.{next-at}
@@ -19,7 +20,6 @@ use Rattle.model.specs.Row.{Entry, Row, Each}
 use Rattle.model.specs.Sweep.{Swept, pass, lower, looks}
 use Rattle.model.proofs.Looks.{pass-none, loop-goes, loop-stays, loop-full}
 use Rattle.model.proofs.Lowering.{lower-le}
-use Rattle.model.proofs.Rows.{each-append}
 use Rattle.memory.specs.Holds.{Fine, Seated, rowOf}
 use Rattle.eviction.specs.Sweep.{seenAt, TakenAt, PassedAt, Sweepable, Turned, SweptFrom, SweptAs}
 use Rattle.eviction.proofs.Seats.{seated-turn, seat-inside, names-used, seated-used, row-passed}

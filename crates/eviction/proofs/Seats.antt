@@ -7,9 +7,10 @@ use lib.ListN.{length, getD, set, length-map}
 use lib.Seq.{getD-set-same}
 use Rattle.page.specs.Entry.{withUses}
 use Rattle.page.specs.declared.entry.PageCacheEntry.{PageCacheEntry}
+use Rattle.page.proofs.Each.{each-turn}
 use Rattle.pool.specs.Slots.{blank}
 use Rattle.ring_links.proofs.Columns.{kept}
-use Rattle.ring_links.proofs.Rings.{turn, out-unsnoc}
+use Rattle.ring_links.proofs.Rings.{turn}
 use Rattle.order.specs.Names.{names}
 use Rattle.order.specs.declared.search.By.{By}
 use Rattle.order.specs.declared.search.By.the-variants.{Key, Handle}
@@ -28,7 +29,7 @@ seat-inside g = simp length-map at (g .ring .inside .0)
 pub seated-turn : {es : List PageCacheEntry} {s : ℕ} {rest : List ℕ} → Seated es (s ∷ rest) → Seated es (rest ++ s ∷ [])
 seated-turn {es} {s} {rest} g = record {
   ring = turn (g .ring);
-  vacant = λ k o. g .vacant k (out-unsnoc k s rest o);
+  vacant = λ k o. g .vacant k (each-turn _ rest (s ∷ []) o);
   spare = g .spare;
 }
 

@@ -9,6 +9,7 @@ use native.Mathlib.Omega.{arith}
 use lib.ListN.{length, getD, length-map}
 use Rattle.page.specs.declared.cache.PageCache.{PageCache}
 use Rattle.page.specs.declared.entry.PageCacheEntry.{PageCacheEntry}
+use Rattle.page.proofs.Each.{each-weaken}
 use Rattle.free_marks.specs.Marks.{Wide}
 use Rattle.ring_links.specs.Ring.{has, Out, Below}
 use Rattle.ring_links.specs.Ring as ring
@@ -25,7 +26,6 @@ use Rattle.model.specs.Cache.{Cache, heldIn}
 use Rattle.model.specs.Demand.{Limited}
 use Rattle.model.specs.Limits.{Apart, Fit, Good, Kept}
 use Rattle.model.specs.Row.{Page, Each}
-use Rattle.model.proofs.Rows.{each-weaken}
 use Rattle.memory.specs.Memory.{Memory}
 use Rattle.memory.specs.Holds.{seen, rowOf, Fine, Holds}
 

@@ -8,21 +8,18 @@ use native.Mathlib.Decide.{ℕ-discrete}
 use lib.ListN.{length, getD, set}
 use Rattle.page.specs.declared.entry.PageCacheEntry.{PageCacheEntry}
 use Rattle.page.specs.declared.names.Slot.{Slot}
+use Rattle.page.proofs.Each.{each-left, each-right, each-place}
 use Rattle.pool.specs.Slots.{blank}
 use Rattle.ring_links.specs.Ring.{has, Out}
 use Rattle.ring_links.specs.Links.{nexts, prevs, RingOf, linkedFirst, linkedAfter, unlinked}
 use Rattle.ring_links.proofs.Columns.{kept, next-at, prev-at, ring-first, ring-after, ring-unlinked}
-use Rattle.order.proofs.Membership.{has-out, out-has, has-skip, has-mid}
+use Rattle.order.proofs.Membership.{has-out, out-has, has-mid}
 use Rattle.memory.specs.Holds.{Seated}
 use Rattle.memory.proofs.Columns.{bare, Written, bare-here, bare-else, written-store, written-first, written-after, written-unlinked}
 
 -- ── lists of slots ───────────────────────────────────────────────────────────
-pub out-mid : (k s : ℕ) (a b : List ℕ) → (k ≡ s → ⊥) → Out k (a ++ b) → Out k (a ++ s ∷ b)
-out-mid k s a b other out = out-has k (a ++ s ∷ b) (has-mid k s a b ∙ has-skip k s (a ++ b) other ∙ has-out k (a ++ b) out)
-
 pub out-parts : (k : ℕ) (a b : List ℕ) → Out k (a ++ b) → Out k a × Out k b
-out-parts k [] b out = (tt, out)
-out-parts k (x ∷ a) b out = let rest = out-parts k a b (out .1) in ((out .0, rest .0), rest .1)
+out-parts k a b out = (each-left _ a b out, each-right _ a b out)
 
 -- a slot that is in is not out
 pub in-out : (k : ℕ) (seats : List ℕ) → has k seats ≡ true → Out k seats → ⊥
@@ -72,7 +69,7 @@ pub seated-unlinked : (es : List PageCacheEntry) (s : ℕ) (before after : List 
     → Seated (unlinked es s) (before ++ after)
 seated-unlinked es s before after inside g =
     seated-written (written-unlinked es s) inside g (ring-unlinked es s before after (g .ring)) blank-spare (λ k out q. refl)
-    (λ k out other. out-mid k s before after other out)
+    (λ k out other. each-place _ before s after other out)
 
 -- ── a seat is taken ──────────────────────────────────────────────────────────
 -- a first one is the hand's; another goes directly after the hand

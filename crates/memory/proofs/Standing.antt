@@ -9,6 +9,7 @@ use Prim.Native.Nat.{ℕ, _<_}
 use lib.ListN.{length, getD, length-map}
 use Rattle.page.specs.declared.cache.PageCache.{PageCache}
 use Rattle.page.specs.declared.entry.PageCacheEntry.{PageCacheEntry}
+use Rattle.page.proofs.Each.{each-middle, each-remove, each-place}
 use Rattle.pool.specs.Slots.{blank, entries}
 use Rattle.ring_links.specs.Ring.{has, Out}
 use Rattle.ring_links.specs.Links.{RingOf}
@@ -23,8 +24,6 @@ use Rattle.order.proofs.Listed.{listed-index}
 use Rattle.model.specs.Cache.{Cache}
 use Rattle.model.specs.Row.{Entry, Row, Each, find, change, without}
 use Rattle.model.specs.Limits.{Apart}
-use Rattle.model.proofs.Rows.{each-middle, each-remove}
-use Rattle.model.proofs.Numbers.{each-place}
 use Rattle.model.proofs.ByKey.{Stands, find-stands, stands-find, stands-without, stands-change, apart-stands}
 use Rattle.memory.specs.Memory.{Memory}
 use Rattle.memory.specs.Holds.{seen, rowOf, Seated, Fine, Holds}

@@ -7,10 +7,11 @@ use mathlib.Core.Option.{Option, none, some, Option·some-injective, Option·non
 use mathlib.Core.Path.{_≡_, refl, sym, ap, subst}
 use Prim.Native.Nat.{ℕ}
 use borrow.Author.Tests.{eqb-true, eqb-false, eq-eqb, ne-eqb}
+use Rattle.page.proofs.Each.{each-left}
 use Rattle.model.specs.Row.{Entry, Row, Each, keyed, find, change, without}
 use Rattle.model.specs.Limits.{Apart}
 use Rattle.model.proofs.KeptCases.{either}
-use Rattle.model.proofs.Numbers.{OtherKey, each-left, apart-others}
+use Rattle.model.proofs.Numbers.{OtherKey, apart-others}
 
 -- the entry stands in the row between these two parts, and is the first with the key
 pub record Stands (key : ℕ) (row : Row) (e : Entry) : Type 0 where

@@ -7,9 +7,9 @@ use mathlib.Core.Path.{_≡_, refl, ap}
 use Prim.Native.Nat.{ℕ, suc, _≤_}
 use native.Mathlib.Decide.{decLe}
 use native.Mathlib.Omega.{arith}
+use Rattle.page.proofs.Each.{each-append}
 use Rattle.model.specs.Row.{Page, Entry, Row, Each}
 use Rattle.model.specs.Demand.{Stays, Victim}
-use Rattle.model.proofs.Rows.{each-append}
 use Rattle.model.proofs.Lowering.{AtLeast, fewer, stays-any, all-stay-any}
 
 module _ (may : Page → Bool) where

@@ -10,10 +10,10 @@ use native.Mathlib.Nat.{mul-le-mul-right}
 use native.Mathlib.Omega.{arith}
 use lib.ListN.{length, length-append, length-map}
 use Rattle.page.specs.Entry.{refMax}
+use Rattle.page.proofs.Each.{each-middle}
 use Rattle.model.specs.Row.{Page, Entry, Row, Each}
 use Rattle.model.specs.Sweep.{Swept, lower, sweep}
 use Rattle.model.specs.Demand.{Limited, MayGo, Stays, Victim, taken, refused, Evicts, full, takes}
-use Rattle.model.proofs.Rows.{each-middle}
 use Rattle.model.proofs.Rounds.{idle-rounds, victim-found}
 use Rattle.model.proofs.Choice.{Chosen, choose}
 

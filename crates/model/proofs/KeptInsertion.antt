@@ -13,6 +13,7 @@ use lib.ListN.{length}
 use borrow.Author.Tests.{ltb-true, ltb-false}
 use Rattle.page.specs.Record.{stale}
 use Rattle.page.specs.declared.record.PageRecord.{PageRecord}
+use Rattle.page.proofs.Each.{each-remove}
 use Rattle.model.specs.Row.{Page, Entry, Row, Each, find}
 use Rattle.model.specs.Cache.{Cache, heldIn, countIn, lowestFree, enterRow, newPage, leave}
 use Rattle.model.specs.Call.{Insertion, plain, forced, upsert, Outcome}
@@ -20,7 +21,6 @@ use Rattle.model.specs.Rooms.{Room, makeRoom}
 use Rattle.model.specs.Rules.{deleting, place, onFull, inRoom, admit, keyExists, present, insertFound, onInsert}
 use Rattle.model.specs.Tests.{underOther}
 use Rattle.model.specs.Limits.{Fit, Good, Kept}
-use Rattle.model.proofs.Rows.{each-remove}
 use Rattle.model.proofs.Numbers.{OtherKey, OtherHandle, apart-others}
 use Rattle.model.proofs.ByKey.{Stands, stands-without, stands-own, find-stands, find-none}
 use Rattle.model.proofs.KeptCases.{either, deleted-or-refused}

@@ -8,9 +8,9 @@ use native.Mathlib.Omega.{arith}
 use lib.Dec.{ltb}
 use lib.ListN.{length}
 use borrow.Author.Tests.{ltb-true, ltb-false}
+use Rattle.page.proofs.Each.{each-weaken, each-apply}
 use Rattle.model.specs.Row.{Page, Entry, Row, Each, sortIn, byKey, those}
 use Rattle.model.specs.Limits.{Apart}
-use Rattle.model.proofs.Rows.{each-weaken, each-apply}
 use Rattle.model.proofs.Numbers.{OtherKey}
 use Rattle.model.proofs.KeptCases.{either}
 

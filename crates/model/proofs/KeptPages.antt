@@ -8,11 +8,11 @@ use Prim.Native.Nat.{ℕ, suc, _≤_, _<_, _^_}
 use native.Mathlib.Omega.{arith}
 use lib.ListN.{length, length-append}
 use Rattle.page.specs.declared.record.PageRecord.{PageRecord}
+use Rattle.page.proofs.Each.{each-middle}
 use Rattle.model.specs.Row.{Page, Entry, Row, Each, find, change, without}
 use Rattle.model.specs.Sweep.{touched}
 use Rattle.model.specs.Cache.{Cache, withRow, withEstimate, withCapacity, withSpill, fresh, pageCounts, estimateMax, countIn, countOut, countOver, leave, touch, rewritten, rewrite, replaced, replacedEntry, replace}
 use Rattle.model.specs.Limits.{Fit, Good, Kept}
-use Rattle.model.proofs.Rows.{each-middle}
 use Rattle.model.proofs.Numbers.{OtherHandle, apart-others}
 use Rattle.model.proofs.ByKey.{Stands, stands-without, stands-change, stands-own, stands-changed, find-stands, find-none, without-none}
 use Rattle.model.proofs.KeptCases.{one-of}

@@ -10,13 +10,13 @@ use lib.Dec.{eqb, ltb}
 use lib.ListN.{length}
 use borrow.Author.Tests.{ltb-false, eqb-false}
 use Rattle.page.specs.Entry.{refMax}
+use Rattle.page.proofs.Each.{each-append, each-weaken}
 use Rattle.model.specs.Row.{Page, Entry, Row, Each}
 use Rattle.model.specs.Sweep.{pass, lower, goesNow, looks, sweep, Swept}
 use Rattle.model.specs.Demand.{Limited, refused}
 use Rattle.model.specs.Cache.{Cache, heldIn, pageMayGo, pageCounts, countOut}
 use Rattle.model.specs.Rooms.{Room, sweepOf, victimOut, evicted, enough, sweeping, evictions, evictTo, makeRoom}
 use Rattle.model.specs.Limits.{Good, Kept}
-use Rattle.model.proofs.Rows.{each-append, each-weaken}
 use Rattle.model.proofs.Evicts.{full-unchanged, held-after}
 use Rattle.model.proofs.KeptCases.{either, one-of}
 use Rattle.model.proofs.KeptRows.{Fits, fits-remove, fits-look, kept-fits, fits-kept}

@@ -6,13 +6,13 @@ use mathlib.Core.Path.{_≡_, refl, sym}
 use Prim.Native.Nat.{ℕ, suc, _≤_, _<_}
 use native.Mathlib.Omega.{arith}
 use lib.ListN.{length, length-append}
+use Rattle.page.proofs.Each.{each-append, each-remove, each-place}
 use Rattle.model.specs.Row.{Page, Entry, Row, Each}
 use Rattle.model.specs.Sweep.{lower}
 use Rattle.model.specs.Cache.{Cache, enterRow, estimateMax, withRow, withEstimate}
 use Rattle.model.specs.Limits.{Apart, Good, Kept}
-use Rattle.model.proofs.Rows.{each-append, each-remove}
 use Rattle.model.proofs.Lowering.{lower-le}
-use Rattle.model.proofs.Numbers.{OtherSlot, OtherKey, OtherHandle, each-place, each-enter, apart-place, apart-remove, apart-turn, apart-same, apart-enter}
+use Rattle.model.proofs.Numbers.{OtherSlot, OtherKey, OtherHandle, each-enter, apart-place, apart-remove, apart-turn, apart-same, apart-enter}
 
 -- a row of a cache with `size` slots, within its limits
 pub record Fits (size : ℕ) (row : Row) : Type 0 where

@@ -1,4 +1,3 @@
-pub mod Rows
 pub mod Lowering
 pub mod Looks
 pub mod Rounds

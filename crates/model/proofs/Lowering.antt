@@ -5,10 +5,10 @@ use mathlib.Core.List.{[], _∷_, map}
 use mathlib.Core.Path.{_≡_, refl, sym, _∙_}
 use Prim.Native.Nat.{ℕ, suc, _-_, _≤_}
 use native.Mathlib.Omega.{arith}
+use Rattle.page.proofs.Each.{each-weaken, each-map}
 use Rattle.model.specs.Row.{Page, Entry, Row, Each}
 use Rattle.model.specs.Sweep.{lower}
 use Rattle.model.specs.Demand.{Stays}
-use Rattle.model.proofs.Rows.{each-weaken, each-map}
 
 -- ── a use count ──────────────────────────────────────────────────────────────
 lower-count-none : (b : Bool) (u : ℕ) → cond b (u - 0) u ≡ u

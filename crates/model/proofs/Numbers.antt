@@ -4,36 +4,16 @@ use mathlib.Core.List.{[], _∷_, _++_, append-nil}
 use mathlib.Core.Logic.{_≢_}
 use mathlib.Core.Path.{_≡_, sym, subst}
 use Prim.Native.Nat.{ℕ}
+use Rattle.page.proofs.Each.{each-middle, each-remove, each-place, each-turn}
 use Rattle.model.specs.Row.{Page, Entry, Row, Each}
 use Rattle.model.specs.Cache.{enterRow}
 use Rattle.model.specs.Limits.{Apart}
-use Rattle.model.proofs.Rows.{each-append, each-middle, each-remove}
 
--- ── each entry, by parts of the row ──────────────────────────────────────────
-module _ (P : Entry → Type 0) where
-  -- of the whole, and so of its parts
-  pub each-left : (xs ys : Row) → Each P (xs ++ ys) → Each P xs
-  each-left [] ys t = tt
-  each-left (x ∷ xs) ys t = (t .0, each-left xs ys (t .1))
-
-  pub each-right : (xs ys : Row) → Each P (xs ++ ys) → Each P ys
-  each-right [] ys t = t
-  each-right (x ∷ xs) ys t = each-right xs ys (t .1)
-
-  -- the hand moves
-  pub each-turn : (xs ys : Row) → Each P (xs ++ ys) → Each P (ys ++ xs)
-  each-turn xs ys t = each-append P ys xs (each-right xs ys t) (each-left xs ys t)
-
-  -- an entry more, at any place
-  pub each-place : (xs : Row) (y : Entry) (ys : Row) → P y → Each P (xs ++ ys) → Each P (xs ++ y ∷ ys)
-  each-place [] y ys h t = (h, t)
-  each-place (x ∷ xs) y ys h t = (t .0, each-place xs y ys h (t .1))
-
-  -- a page enters
-  pub each-enter : (p : Page) (row : Row) → P (record { page = p; uses = 0 }) → Each P row → Each P (enterRow p row)
-  unfolding enterRow
-  each-enter p [] h t = (h, tt)
-  each-enter p (e ∷ es) h t = (t .0, (h, t .1))
+-- ── a page enters the row ────────────────────────────────────────────────────
+pub each-enter : (P : Entry → Type 0) (p : Page) (row : Row) → P (record { page = p; uses = 0 }) → Each P row → Each P (enterRow p row)
+unfolding enterRow
+each-enter P p [] h t = (h, tt)
+each-enter P p (e ∷ es) h t = (t .0, (h, t .1))
 
 -- ── different numbers ────────────────────────────────────────────────────────
 module _ (number : Page → ℕ) where

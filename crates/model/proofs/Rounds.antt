@@ -8,10 +8,10 @@ use Prim.Native.Nat.{ℕ, zero, suc, _+_, _*_, _-_}
 use native.Mathlib.Nat.{suc-add, zero-add, add-zero, zero-mul}
 use native.Mathlib.Omega.{arith}
 use lib.ListN.{length, length-append, length-map}
+use Rattle.page.proofs.Each.{each-append}
 use Rattle.model.specs.Row.{Page, Entry, Row, Each}
 use Rattle.model.specs.Sweep.{pass, lower, looks}
 use Rattle.model.specs.Demand.{Stays}
-use Rattle.model.proofs.Rows.{each-append}
 use Rattle.model.proofs.Lowering.{AtLeast, fewer, all-stay-any, one-less, lower-none, lower-again, lower-stays}
 use Rattle.model.proofs.Looks.{pass-none, pass-pass, goes-now, stays-now, looks-goes, looks-stays}
 

@@ -6,12 +6,12 @@ use mathlib.Core.Option.{some}
 use Prim.Native.Nat.{ℕ, suc}
 use native.Mathlib.Omega.{arith}
 use lib.ListN.{length, length-append}
+use Rattle.page.proofs.Each.{each-place, each-middle, each-remove, each-weaken, each-apply}
 use Rattle.model.specs.Limits.{Apart}
 use Rattle.model.specs.Row.{Entry, Row, Each, find, without, byKey}
 use Rattle.model.proofs.ByKey.{Stands, find-stands, stands-without}
 use Rattle.model.proofs.KeptOrder.{Above, Ascending, by-key-each, each-by-key, by-key-ascending, by-key-once}
-use Rattle.model.proofs.Numbers.{OtherKey, each-place, apart-others, apart-remove}
-use Rattle.model.proofs.Rows.{each-middle, each-remove, each-weaken, each-apply}
+use Rattle.model.proofs.Numbers.{OtherKey, apart-others, apart-remove}
 
 -- ── an ascending row ─────────────────────────────────────────────────────────
 ascending-remove : (xs : Row) (e : Entry) (ys : Row) → Ascending (xs ++ e ∷ ys) → Ascending (xs ++ ys)

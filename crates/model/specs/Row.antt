@@ -4,6 +4,7 @@ use mathlib.Core.List.{List, [], _∷_}
 use mathlib.Core.Option.{Option, none, some}
 use Prim.Native.Nat.{ℕ, _+_}
 use lib.Dec.{eqb, ltb}
+use Rattle.page.specs.All.{All}
 use Rattle.page.specs.declared.record.PageRecord.{PageRecord}
 
 -- all of a held page but its use count
@@ -22,8 +23,7 @@ Row = List Entry
 
 -- P holds of every entry of the row
 abbrev pub Each : (Entry → Type 0) → Row → Type 0
-Each P [] = Unit {0}
-Each P (e ∷ es) = P e × Each P es
+Each P row = All P row
 
 -- the sum of its use counts
 unfoldable pub total : Row → ℕ

@@ -13,6 +13,7 @@ use borrow.Author.Tests.{eq-eqb, ne-eqb}
 use Rattle.page.specs.declared.cache.PageCache.{PageCache}
 use Rattle.page.specs.declared.entry.PageCacheEntry.{PageCacheEntry}
 use Rattle.page.specs.declared.names.Slot.{Slot}
+use Rattle.page.proofs.Each.{each-weaken}
 use Rattle.pool.specs.Slots.{blank, entries}
 use Rattle.ring_links.specs.Ring.{has}
 use Rattle.order.specs.Names.{names}
@@ -27,7 +28,6 @@ use Rattle.model.specs.Tests.{underOther}
 use Rattle.model.proofs.ByKey.{none-find}
 use Rattle.model.proofs.KeptTests.{Under}
 use Rattle.model.proofs.KeptTests as tests
-use Rattle.model.proofs.Rows.{each-weaken}
 use Rattle.memory.specs.Memory.{Memory}
 use Rattle.memory.specs.Holds.{seen, rowOf, Holds}
 use Rattle.memory.proofs.Rows.{each-seat, seat-each}

@@ -10,8 +10,9 @@ use native.Mathlib.Numerals.{add-one}
 use native.Mathlib.Omega.{arith}
 use lib.ListN.{length, getD, take, drop, set, length-set, length-drop}
 use lib.Seq.{getD-take, getD-drop, getD-set-other, length-take-le}
+use Rattle.page.specs.All.{All}
 use Rattle.ring_links.specs.Ring.{has, Out, Apart}
-use Rattle.order.specs.Index.{All, Asc, Index, nameAt, insertAt, removeAt}
+use Rattle.order.specs.Index.{Asc, Index, nameAt, insertAt, removeAt}
 use Rattle.order.proofs.Lists.{all-at, all-of, all-insert, all-remove}
 use Rattle.order.proofs.Membership.{has-cons}
 

@@ -3,7 +3,8 @@ use mathlib.Core.List.{List, [], _∷_}
 use Prim.Native.Nat.{ℕ, zero, suc, _<_, zero-le, suc-le-suc}
 use native.Mathlib.Nat.{le-of-suc-le-suc, not-suc-le-zero}
 use lib.ListN.{length, getD, drop}
-use Rattle.order.specs.Index.{All, insertAt, removeAt}
+use Rattle.page.specs.All.{All}
+use Rattle.order.specs.Index.{insertAt, removeAt}
 
 module _ (P : ℕ → Type 0) where
   -- at a place, and from what holds at each place

@@ -7,8 +7,9 @@ use Prim.Native.Nat.{ℕ, _-_, _<_}
 use native.Mathlib.Omega.{arith}
 use native.Mathlib.Decide.{ℕ-discrete}
 use lib.ListN.{length, take, drop, length-drop, take-append-drop}
+use Rattle.page.specs.All.{All}
 use Rattle.ring_links.specs.Ring.{has}
-use Rattle.order.specs.Index.{All, Asc}
+use Rattle.order.specs.Index.{Asc}
 use Rattle.order.specs.Listed.{Listed}
 use Rattle.order.proofs.Membership.{has-here, has-skip, has-out}
 use Rattle.order.proofs.Ascending.{has-above, out-above}

@@ -4,13 +4,9 @@ use mathlib.Core.Path.{_≡_}
 use mathlib.Core.List.{List, [], _∷_, _++_}
 use Prim.Native.Nat.{ℕ, suc, _+_, _-_, _≤_, _<_}
 use lib.ListN.{length, getD, take, drop}
+use Rattle.page.specs.All.{All}
 use Rattle.order.specs.declared.search.Spot.{Spot}
 use Rattle.order.specs.declared.search.Spot.the-variants.{Here, Gap}
-
--- P holds of each element
-abbrev pub All : (ℕ → Type 0) → List ℕ → Type 0
-All P [] = Unit
-All P (s ∷ l) = P s × All P l
 
 -- each slot of the list has a name, and the names ascend strictly
 abbrev pub Asc : List ℕ → List ℕ → Type 0

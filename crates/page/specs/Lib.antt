@@ -1,3 +1,4 @@
+pub mod All
 pub mod Record
 pub mod Entry
 pub mod Cache

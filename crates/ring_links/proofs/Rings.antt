@@ -1,13 +1,14 @@
 -- A ring turns, takes a slot in and lets one go: a store outside a way keeps the way, and any slot of a ring can be
 -- turned to the front, so that each change is made there.
-use mathlib.Core.Path.{_≡_, refl, sym, ap, _∙_}
-use mathlib.Core.Logic.{_⊎_, inl, inr, ⊎-elim}
+use mathlib.Core.Path.{_≡_, refl, ap, _∙_}
+use mathlib.Core.Logic.{_⊎_, inl, inr, ⊎-elim, Ne·symm}
 use mathlib.Core.List.{List, [], _∷_, _++_, append-assoc, append-nil}
 use Prim.Native.Nat.{ℕ, _<_}
 use native.Mathlib.Omega.{arith}
 use native.Mathlib.Decide.{ℕ-discrete}
 use lib.ListN.{length, getD, set, length-set}
 use lib.Seq.{getD-set-same, getD-set-other, append-snoc}
+use Rattle.page.proofs.Each.{each-append, each-turn}
 use Rattle.ring_links.specs.Ring.{Ring, Out, Apart, Below, Link, Way, Round}
 
 -- ── a store elsewhere ────────────────────────────────────────────────────────
@@ -15,34 +16,19 @@ use Rattle.ring_links.specs.Ring.{Ring, Out, Apart, Below, Link, Way, Ro
 kept-at : (l : List ℕ) (k j v : ℕ) {w : ℕ} → (j ≡ k → ⊥) → getD l j 0 ≡ w → getD (set l k v) j 0 ≡ w
 kept-at l k j v ne e = getD-set-other l k j v 0 ne ∙ e
 
-flip : {a b : ℕ} → (a ≡ b → ⊥) → b ≡ a → ⊥
-flip ne e = ne (sym e)
-
 -- a next link changes at a slot that the way does not leave, a previous one at a slot that it does not come to
 way-next : (n p : List ℕ) (k v a z : ℕ) (r : List ℕ) → Out k (a ∷ r) → Way n p a r z → Way (set n k v) p a r z
-way-next n p k v a z [] o w = (kept-at n k a v (flip (o .0)) (w .0), w .1)
-way-next n p k v a z (b ∷ r) o w = ((kept-at n k a v (flip (o .0)) (w .0 .0), w .0 .1), way-next n p k v b z r (o .1) (w .1))
+way-next n p k v a z [] o w = (kept-at n k a v (Ne·symm (o .0)) (w .0), w .1)
+way-next n p k v a z (b ∷ r) o w = ((kept-at n k a v (Ne·symm (o .0)) (w .0 .0), w .0 .1), way-next n p k v b z r (o .1) (w .1))
 
 way-prev : (n p : List ℕ) (k v a z : ℕ) (r : List ℕ) → Out k r → (k ≡ z → ⊥) → Way n p a r z → Way n (set p k v) a r z
-way-prev n p k v a z [] o ne w = (w .0, kept-at p k z v (flip ne) (w .1))
-way-prev n p k v a z (b ∷ r) o ne w = ((w .0 .0, kept-at p k b v (flip (o .0)) (w .0 .1)), way-prev n p k v b z r (o .1) ne (w .1))
+way-prev n p k v a z [] o ne w = (w .0, kept-at p k z v (Ne·symm ne) (w .1))
+way-prev n p k v a z (b ∷ r) o ne w = ((w .0 .0, kept-at p k b v (Ne·symm (o .0)) (w .0 .1)), way-prev n p k v b z r (o .1) ne (w .1))
 
 -- ── the ring turned ──────────────────────────────────────────────────────────
-out-snoc : (k e : ℕ) (r : List ℕ) → Out k r → (k ≡ e → ⊥) → Out k (r ++ e ∷ [])
-out-snoc k e [] o ne = (ne, tt)
-out-snoc k e (x ∷ r) o ne = (o .0, out-snoc k e r (o .1) ne)
-
-pub out-unsnoc : (k e : ℕ) (r : List ℕ) → Out k (r ++ e ∷ []) → Out k (e ∷ r)
-out-unsnoc k e [] o = o
-out-unsnoc k e (x ∷ r) o = let q : Out k (e ∷ r) = out-unsnoc k e r (o .1) in (q .0, (o .0, q .1))
-
 apart-snoc : (e : ℕ) (r : List ℕ) → Out e r → Apart r → Apart (r ++ e ∷ [])
 apart-snoc e [] o d = (tt, tt)
-apart-snoc e (x ∷ r) o d = (out-snoc x e r (d .0) (flip (o .0)), apart-snoc e r (o .1) (d .1))
-
-below-snoc : (m e : ℕ) (r : List ℕ) → e < m → Below m r → Below m (r ++ e ∷ [])
-below-snoc m e [] h b = (h, tt)
-below-snoc m e (x ∷ r) h b = (b .0, below-snoc m e r h (b .1))
+apart-snoc e (x ∷ r) o d = (each-append _ r (e ∷ []) (d .0) (Ne·symm (o .0), tt), apart-snoc e r (o .1) (d .1))
 
 way-snoc : (n p : List ℕ) (a e z : ℕ) (r : List ℕ) → Way n p a r e → Link n p e z → Way n p a (r ++ e ∷ []) z
 way-snoc n p a e z [] w l = (w, l)
@@ -57,10 +43,10 @@ pub turn : {n p : List ℕ} {e : ℕ} {r : List ℕ} → Ring n p (e ∷ r) → 
 turn {n} {p} {e} {r} g = record {
   same = g .same;
   apart = apart-snoc e r (g .apart .0) (g .apart .1);
-  inside = below-snoc (length n) e r (g .inside .0) (g .inside .1);
+  inside = each-turn _ (e ∷ []) r (g .inside);
   round = round-snoc n p e r (g .round);
-  free-next = λ k o. g .free-next k (out-unsnoc k e r o);
-  free-prev = λ k o. g .free-prev k (out-unsnoc k e r o);
+  free-next = λ k o. g .free-next k (each-turn _ r (e ∷ []) o);
+  free-prev = λ k o. g .free-prev k (each-turn _ r (e ∷ []) o);
 }
 
 -- by any number of slots
@@ -149,7 +135,7 @@ module _ (n p : List ℕ) (h s : ℕ) where
       kept-at (set n s x) h s s (o .0) (getD-set-same n s x 0 ls),
       getD-set-same (set p s h) x s 0 (simp length-set (omega arith)),
     ),
-    way-prev _ (set p s h) x s x h r (d .1 .0) (flip (d .0 .0))
+    way-prev _ (set p s h) x s x h r (d .1 .0) (Ne·symm (d .0 .0))
         (way-prev _ p s h x h r (o .1 .1) (o .0)
         (way-next (set n s x) p h s x h r (d .0) (way-next n p s x x h r (o .1) (w .1)))),
   )
@@ -158,7 +144,7 @@ module _ (n p : List ℕ) (h s : ℕ) where
       → Ring (set (set n s (first row h)) h s) (set (set p s h) (first row h) s) (h ∷ s ∷ row)
   linked row ls g o = record {
     same = simp length-set (g .same);
-    apart = ((flip (o .0), g .apart .0), (o .1, g .apart .1));
+    apart = ((Ne·symm (o .0), g .apart .0), (o .1, g .apart .1));
     inside = simp length-set (g .inside .0, (ls, g .inside .1));
     round = (
       (
@@ -188,10 +174,10 @@ module _ (n p : List ℕ) (a s : ℕ) where
   way-unlinked (x ∷ r) e d b w = (
     (
       kept-at (set n a x) s a 0 (d .0 .0) (getD-set-same n a x 0 (b .0)),
-      kept-at (set p x a) s x 0 (flip (d .1 .0 .0)) (getD-set-same p x a 0 (omega arith)),
+      kept-at (set p x a) s x 0 (Ne·symm (d .1 .0 .0)) (getD-set-same p x a 0 (omega arith)),
     ),
-    way-prev _ (set p x a) s 0 x a r (d .1 .0 .1) (flip (d .0 .0))
-        (way-prev _ p x a x a r (d .1 .1 .0) (flip (d .0 .1 .0))
+    way-prev _ (set p x a) s 0 x a r (d .1 .0 .1) (Ne·symm (d .0 .0))
+        (way-prev _ p x a x a r (d .1 .1 .0) (Ne·symm (d .0 .1 .0))
         (way-next (set n a x) p s 0 x a r (d .1 .0) (way-next n p a x x a r (d .0 .1) (w .1)))),
   )
 

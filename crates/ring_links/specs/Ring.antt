@@ -3,9 +3,11 @@
 use mathlib.Core.Path.{_≡_}
 use mathlib.Core.Bool.{Bool, false, _||_}
 use mathlib.Core.List.{List, [], _∷_}
+use mathlib.Core.Logic.{_≢_}
 use Prim.Native.Nat.{ℕ, _<_}
 use lib.Dec.{eqb}
 use lib.ListN.{length, getD}
+use Rattle.page.specs.All.{All}
 
 -- ── rows ─────────────────────────────────────────────────────────────────────
 -- the slot k is one of the row's
@@ -15,8 +17,7 @@ has k (a ∷ row) = eqb k a || has k row
 
 -- the slot k is none of the row's
 abbrev pub Out : ℕ → List ℕ → Type 0
-Out k [] = Unit
-Out k (a ∷ row) = (k ≡ a → ⊥) × Out k row
+Out k row = All (λ a. k ≢ a) row
 
 -- no slot stands twice in the row
 abbrev pub Apart : List ℕ → Type 0
@@ -25,8 +26,7 @@ Apart (a ∷ row) = Out a row × Apart row
 
 -- each slot of the row is below the size
 abbrev pub Below : ℕ → List ℕ → Type 0
-Below size [] = Unit
-Below size (a ∷ row) = (a < size) × Below size row
+Below size row = All (λ a. a < size) row
 
 -- the slot at which the row begins, or 0
 abbrev pub firstOf : List ℕ → ℕ

@@ -10,8 +10,8 @@ use native.Mathlib.Decide.{ℕ-discrete}
 use lib.Dec.{eqb}
 use lib.ListN.{length}
 use borrow.Author.Tests.{eq-eqb, ne-eqb}
+use Rattle.page.specs.All.{All}
 use Rattle.ring_links.specs.Ring.{has, Out, Apart}
-use Rattle.order.specs.Index.{All}
 use Rattle.order.proofs.Membership.{has-here, has-there, has-skip, has-cons, out-has}
 use Rattle.soundness.specs.Checks.{tick, countBelow}
 

@@ -13,6 +13,8 @@ use lib.Seq.{getD-take, length-take-le}
 use borrow.Author.Tests.{eq-eqb, eqb-true, eqb-false}
 use Rattle.page.specs.declared.cache.PageCache.{PageCache}
 use Rattle.page.specs.declared.entry.PageCacheEntry.{PageCacheEntry}
+use Rattle.page.specs.All.{All}
+use Rattle.page.proofs.Each.{each-weaken}
 use Rattle.free_marks.specs.Marks.{bitAt}
 use Rattle.ring_links.specs.Ring.{has, Out, Apart, Below}
 use Rattle.pool.specs.Slots.{blank, entries}
@@ -20,7 +22,7 @@ use Rattle.pool.specs.Tells.{Tells}
 use Rattle.ring_links.proofs.Columns.{next-at, prev-at}
 use Rattle.pool.proofs.Packing.{entries-whole}
 use Rattle.pool.proofs.Tells.{tells-as}
-use Rattle.order.specs.Index.{All, Index}
+use Rattle.order.specs.Index.{Index}
 use Rattle.order.specs.Listed.{Listed}
 use Rattle.order.specs.Names.{names, nameOf}
 use Rattle.order.specs.declared.search.By.{By}
@@ -42,20 +44,8 @@ use Rattle.soundness.proofs.Bits.{bit-one}
 use Rattle.soundness.proofs.Counting.{all-has, has-all, covers, as-many}
 
 -- ── rows of slots ────────────────────────────────────────────────────────────
-all-map : {P Q : ℕ → Type 0} → ((k : ℕ) → P k → Q k) → (l : List ℕ) → All P l → All Q l
-all-map f [] g = tt
-all-map f (a ∷ l) g = (f a (g .0), all-map f l (g .1))
-
-below-all : (size : ℕ) (l : List ℕ) → All (λ k. k < size) l → Below size l
-below-all size [] g = tt
-below-all size (a ∷ l) g = (g .0, below-all size l (g .1))
-
-all-below : (size : ℕ) (l : List ℕ) → Below size l → All (λ k. k < size) l
-all-below size [] g = tt
-all-below size (a ∷ l) g = (g .0, all-below size l (g .1))
-
 -- a list of slots below the size has none from the size on
-has-below : (size : ℕ) (l : List ℕ) → All (λ k. k < size) l → (k : ℕ) → size ≤ k → has k l ≡ false
+has-below : (size : ℕ) (l : List ℕ) → Below size l → (k : ℕ) → size ≤ k → has k l ≡ false
 has-below size [] g k h = refl
 has-below size (a ∷ l) g k h = has-skip k a l (λ e. omega (arith, g .0)) ∙ has-below size l (g .1) k h
 
@@ -92,13 +82,13 @@ module _ (m : Memory) (head : PageCache) (ch : Checked m head) where
 
   -- `held` different unmarked slots are all the unmarked ones
   all-unmarked : (l : List ℕ) → Apart l → All (Taken (m .marks) size) l → length l ≡ head .held → (k : ℕ) → k < size → has k l ≡ unmarked (m .marks) k
-  all-unmarked l d g e = covers l (unmarked (m .marks)) size d (all-map (λ k t. (t .inside, eq-eqb (bitAt (m .marks) k) 0 (t .held))) l g) (e ∙ sym (ch .marks .count))
+  all-unmarked l d g e = covers l (unmarked (m .marks)) size d (each-weaken _ _ (λ k t. (t .inside, eq-eqb (bitAt (m .marks) k) 0 (t .held))) l g) (e ∙ sym (ch .marks .count))
 
   seats-taken : All (Taken (m .marks) size) seats
   seats-taken = subst (λ (s : ℕ). All (Taken (m .marks) s) seats) es-long (ch .ring .taken)
 
-  seats-below : All (λ k. k < size) seats
-  seats-below = all-map (λ k t. t .inside) seats seats-taken
+  seats-below : Below size seats
+  seats-below = each-weaken _ _ (λ k t. t .inside) seats seats-taken
 
   seats-unmarked : (k : ℕ) → k < size → has k seats ≡ unmarked (m .marks) k
   seats-unmarked = all-unmarked seats (ch .ring .apart) seats-taken (ch .ring .long)
@@ -124,7 +114,7 @@ module _ (m : Memory) (head : PageCache) (ch : Checked m head) where
     ring = record {
       same = length-map es (λ (e : PageCacheEntry). e .prev .0) ∙ sym (length-map es (λ (e : PageCacheEntry). e .next .0));
       apart = ch .ring .apart;
-      inside = below-all _ seats (subst (λ (s : ℕ). All (λ k. k < s) seats) (sym (length-map es (λ (e : PageCacheEntry). e .next .0) ∙ es-long)) seats-below);
+      inside = subst (λ (s : ℕ). Below s seats) (sym (length-map es (λ (e : PageCacheEntry). e .next .0) ∙ es-long)) seats-below;
       round = ch .ring .round;
       free-next = λ k o. next-at es k ∙ ap (λ (x : PageCacheEntry). x .next .0) (vacant k o) ∙ blank-next;
       free-prev = λ k o. prev-at es k ∙ ap (λ (x : PageCacheEntry). x .prev .0) (vacant k o) ∙ blank-prev;
@@ -154,7 +144,7 @@ module _ (m : Memory) (head : PageCache) (ch : Checked m head) where
     same : (k : ℕ) → has k used ≡ has k seats
     same k = ⊎-elim
         (λ (l : k < size). all-unmarked used (asc-apart (names by es) used (index .asc)) used-taken used-long k l ∙ sym (seats-unmarked k l))
-        (λ (l : size ≤ k). has-below size used (all-map (λ k t. t .inside) used used-taken) k l ∙ sym (has-below size seats seats-below k l))
+        (λ (l : size ≤ k). has-below size used (each-weaken _ _ (λ k t. t .inside) used used-taken) k l ∙ sym (has-below size seats seats-below k l))
         (lt-or-le k size)
 
     listed : Listed (names by es) order seats
@@ -200,8 +190,8 @@ module _ {m : Memory} {head : PageCache} {c : Cache} (hd : Holds m head c) where
   abbrev sound-es : List PageCacheEntry
   sound-es = entries (m .slots)
 
-  seat-below : All (λ k. k < c .size) (hd .seats)
-  seat-below = subst (λ (s : ℕ). All (λ k. k < s) (hd .seats)) (length-map sound-es (λ (e : PageCacheEntry). e .next .0) ∙ holds-size hd) (all-below _ (hd .seats) (hd .seated .ring .inside))
+  seat-below : Below (c .size) (hd .seats)
+  seat-below = subst (λ (s : ℕ). Below s (hd .seats)) (length-map sound-es (λ (e : PageCacheEntry). e .next .0) ∙ holds-size hd) (hd .seated .ring .inside)
 
   seat-taken : (k : ℕ) → has k (hd .seats) ≡ true → Taken (m .marks) (c .size) k
   seat-taken k e =

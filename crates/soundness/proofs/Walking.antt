@@ -10,6 +10,7 @@ use lib.Dec.{eqb}
 use lib.ListN.{length, getD}
 use borrow.Author.Tests.{eq-eqb, eqb-true}
 use Rattle.page.specs.declared.entry.PageCacheEntry.{PageCacheEntry}
+use Rattle.page.specs.All.{All}
 use Rattle.ring_links.specs.Links.{nexts, prevs, nextAt, prevAt}
 use Rattle.free_marks.specs.Marks.{bitAt}
 use Rattle.ring_links.specs.Ring.{Out, Apart, Way, Round, firstOf}
@@ -17,7 +18,6 @@ use Rattle.pool.specs.Slots.{blank}
 use Rattle.pool.specs.Tells.{Tells}
 use Rattle.ring_links.proofs.Columns.{next-at, prev-at}
 use Rattle.pool.proofs.Tells.{tells-no}
-use Rattle.order.specs.Index.{All}
 use Rattle.soundness.specs.Checks.{Taken, Walked}
 use Rattle.soundness.proofs.Bits.{bit-limit, free-marked, held-unmarked}
 

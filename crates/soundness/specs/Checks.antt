@@ -10,11 +10,12 @@ use Rattle.page.specs.Cache.{maxSlots}
 use Rattle.page.specs.Entry.{refMax}
 use Rattle.page.specs.declared.cache.PageCache.{PageCache}
 use Rattle.page.specs.declared.entry.PageCacheEntry.{PageCacheEntry}
+use Rattle.page.specs.All.{All}
 use Rattle.ring_links.specs.Links.{nexts, prevs}
 use Rattle.free_marks.specs.Marks.{bitAt}
 use Rattle.ring_links.specs.Ring.{Apart, Round, firstOf}
 use Rattle.pool.specs.Slots.{blank, entries}
-use Rattle.order.specs.Index.{All, nameAt}
+use Rattle.order.specs.Index.{nameAt}
 use Rattle.order.specs.Names.{names}
 use Rattle.order.specs.declared.search.By.the-variants.{Key, Handle}
 use Rattle.memory.specs.Memory.{Memory}
