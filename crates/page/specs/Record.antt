@@ -2,7 +2,7 @@
 use mathlib.Core.Bool.{Bool, cond, not, _&&_, _||_}
 use Prim.Native.Nat.{ℕ}
 use lib.Bits.{bitAnd}
-use lib.Dec.{eqb, leb}
+use lib.Dec.{eqb}
 use Rattle.page.specs.declared.record.PageRecord.{PageRecord}
 use Rattle.page.specs.declared.record.Deletable.{Deletable}
 use Rattle.page.specs.declared.record.Deletable.the-variants.{Yes, Locked, Dirty, Pinned}
