@@ -3,8 +3,8 @@
 use mathlib.Core.Bool.{Bool, true, false}
 use mathlib.Core.List.{List, [], _∷_, _++_, append-nil}
 use mathlib.Core.Option.{Option, none, some}
-use mathlib.Core.Path.{_≡_, refl, sym, ap, _∙_}
-use Prim.Native.Nat.{ℕ, zero, suc, _+_, _-_, _≤_}
+use mathlib.Core.Path.{_≡_, refl, ap, _∙_}
+use Prim.Native.Nat.{ℕ, zero, suc, _+_, _-_}
 use native.Mathlib.Omega.{arith}
 use lib.Dec.{eqb, ltb}
 use lib.ListN.{length}
@@ -16,7 +16,7 @@ use Rattle.page.specs.declared.record.Deletable.the-variants.{Yes, Locked, Dirt
 use Rattle.page.specs.declared.record.PageRecord.{PageRecord}
 use Rattle.model.specs.Row.{Page, Entry, Row, total, find, byKey, those}
 use Rattle.model.specs.Sweep.{touched}
-use Rattle.model.specs.Cache.{Cache, heldIn, withCapacity, up, down, leave, newPage, touch, replacedEntry, replace}
+use Rattle.model.specs.Cache.{Cache, heldIn, withCapacity, up, down, leave, newPage, touch, replacedEntry}
 use Rattle.model.specs.Call.{Insertion, plain, forced, upsert, Call, create, insert, lookup, peek, delete, resize, truncate, remove-frames, clear, notify-dirty, notify-spilled, write, spill, evict-one, switch, Outcome, answer, listing, touching}
 use Rattle.model.specs.Tests.{refusal}
 use Rattle.model.specs.Limits.{Kept}
@@ -26,7 +26,7 @@ use Rattle.model.specs.Evictions as evictions
 use Rattle.model.specs.Rules.{deleting, deleteFound, place, placeIfFree, onFull, inRoom, admit, keyExists, present, insertFound, onInsert, hit, lookupFound, peekFound, onResize, deleteEach, newerThan, emptied, clearUnless, onClear, notified, writeFound, evictFrom}
 use Rattle.model.specs.Spill.{needsSpill, selection, selected, onSpill}
 use Rattle.model.specs.Step.{act, tested, step, run, runTouches, runFalls}
-use Rattle.model.specs.Uses.{Evicting, Effect, neither, touches, evicts, roomEffect, presentEffect, insertEffect, lookupEffect, peekEffect, resizeEffect, evictEffect, ruleEffect, unlessRefused, effectOf, touchesOf, TouchesAt, Touched, Enters, stays, enters, EvictionsIn, NoEvictions, EvictionsOf, Fell, Counts}
+use Rattle.model.specs.Uses.{Evicting, neither, touches, evicts, roomEffect, presentEffect, insertEffect, lookupEffect, peekEffect, resizeEffect, evictEffect, ruleEffect, unlessRefused, effectOf, touchesOf, Touched, Enters, stays, enters, NoEvictions, EvictionsOf, Fell, Counts}
 use Rattle.model.proofs.ByKey.{Stands, find-stands, stands-own, stands-change, stands-changed}
 use Rattle.model.proofs.Evictions.{sweeping-evicts, evict-to-evicts, evicts-total}
 use Rattle.model.proofs.KeptCases.{either, deleted-or-refused}

@@ -1,5 +1,4 @@
 -- Every call: the tests, then the rules. And runs of calls from creation.
-use mathlib.Core.Bool.{Bool, true, false}
 use mathlib.Core.List.{List, [], _∷_}
 use Prim.Native.Nat.{ℕ, zero, suc, _+_}
 use Rattle.model.specs.Cache.{Cache, withSpill, fresh}

@@ -5,7 +5,7 @@ use mathlib.Core.Option.{Option, none, some}
 use Prim.Native.Nat.{ℕ}
 use lib.Dec.{eqb, ltb}
 use Rattle.page.specs.declared.record.PageRecord.{PageRecord}
-use Rattle.model.specs.Row.{Entry, Row}
+use Rattle.model.specs.Row.{Row}
 use Rattle.model.specs.Cache.{Cache, heldIn}
 use Rattle.model.specs.Call.{Call, create, insert, lookup, peek, delete, resize, truncate, remove-frames, clear, notify-dirty, notify-spilled, write, spill, evict-one, switch}
 
