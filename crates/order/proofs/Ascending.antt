@@ -1,8 +1,8 @@
 -- Slots by strictly ascending names: each name is below all later ones, so a name determines its slot and its place, and the
 -- members alone determine the list.
 use mathlib.Core.Path.{_≡_, sym, ap, _∙_}
-use mathlib.Core.Bool.{true, false, true≢false}
-use mathlib.Core.Logic.{_⊎_, ⊎-elim}
+use mathlib.Core.Bool.{true, true≢false}
+use mathlib.Core.Logic.{⊎-elim}
 use mathlib.Core.List.{List, [], _∷_}
 use Prim.Native.Nat.{ℕ, zero, suc, _+_, _-_, _≤_, _<_, zero-le, suc-le-suc}
 use native.Mathlib.Nat.{eq-or-lt-of-le, le-of-eq, le-of-lt, le-of-suc-le-suc, not-suc-le-zero}
