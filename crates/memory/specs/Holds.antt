@@ -1,6 +1,6 @@
 -- What it means that the lent memory holds a cache, and that it is sound (01, "Memory, pages and numbers").
 use mathlib.Core.Path.{_≡_}
-use mathlib.Core.Bool.{Bool, cond}
+use mathlib.Core.Bool.{cond}
 use mathlib.Core.List.{List, map}
 use Prim.Native.Nat.{ℕ, _+_, _*_, _/_, _≤_, _<_}
 use lib.ListN.{length, getD}
