@@ -2,7 +2,6 @@
 use order::By;
 use order::name;
 use page::Slot;
-ghost use lib.ListN.{length};
 ghost use Rattle.pool.specs.Slots.{entries};
 ghost use Rattle.pool.specs.Tells.{Tells};
 ghost use Rattle.order.specs.Names.{names};

@@ -1,7 +1,5 @@
 // The pass over the marks.
 ghost use mathlib.Core.Path.{_≡_};
-ghost use Prim.Native.Nat.{_+_, _/_};
-ghost use lib.ListN.{length};
 ghost use Rattle.pool.specs.Tells.{Tells};
 ghost use Rattle.soundness.specs.Checks.{MarksFit, Beyond, Countable, Counted, countBelow, unmarked};
 
