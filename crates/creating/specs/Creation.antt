@@ -2,7 +2,7 @@
 use mathlib.Core.Path.{_≡_}
 use mathlib.Core.List.{List, [], _∷_, _++_}
 use mathlib.Core.Option.{Option, none, some}
-use Prim.Native.Nat.{ℕ, zero, suc, _+_, _*_, _-_, _/_, _%_, _^_, _≤_, _<_}
+use Prim.Native.Nat.{ℕ, zero, suc, _*_, _-_, _/_, _%_, _^_, _≤_, _<_}
 use lib.ListN.{length, replicate}
 use Rattle.page.specs.Cache.{created}
 use Rattle.page.specs.declared.cache.PageCache.{PageCache}
