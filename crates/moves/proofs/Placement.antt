@@ -29,7 +29,7 @@ use Rattle.order.specs.declared.search.By.{By}
 use Rattle.order.specs.declared.search.By.the-variants.{Key, Handle}
 use Rattle.order.proofs.Listed.{listed-seats}
 use Rattle.model.specs.Cache.{Cache, heldIn, lowestFree, enterRow, newPage, enter}
-use Rattle.model.specs.Row.{Entry, Row, Each}
+use Rattle.model.specs.Row.{Entry, Row}
 use Rattle.model.proofs.Numbers.{each-enter}
 use Rattle.memory.specs.Memory.{Memory}
 use Rattle.memory.specs.Holds.{seen, rowOf, Seated, Headed, Fine, Holds}
