@@ -1,6 +1,6 @@
 -- A record write that passes its test does what rule 12 says of the entry that the search found, or of none.
 use mathlib.Core.Path.{_≡_, refl, ap, _∙_}
-use mathlib.Core.Option.{Option, none, some}
+use mathlib.Core.Option.{Option, none}
 use Prim.Native.Nat.{ℕ, _≤_, _<_}
 use borrow.Author.Tests.{lt-ltb, le-ltb}
 use Rattle.page.specs.declared.cache.PageCache.{PageCache}
