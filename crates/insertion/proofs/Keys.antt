@@ -19,7 +19,6 @@ use Rattle.model.proofs.KeptCases.{either}
 use Rattle.memory.specs.Memory.{Memory}
 use Rattle.memory.specs.Holds.{Holds}
 use Rattle.memory.proofs.OnceKept.{holds-held, holds-fits}
-use Rattle.answer.specs.Answer.{Follows, Comes}
 use Rattle.answer.specs.declared.answered.Answered.{Answered}
 use Rattle.answer.proofs.Steps.{comes-as, wrote-none, unlisted-comes}
 use Rattle.moves.specs.Moves.{memoryOf, KeyAt, KeyGap, Replaceable}
