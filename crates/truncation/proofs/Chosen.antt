@@ -18,10 +18,9 @@ use Rattle.order.specs.declared.search.By.the-variants.{Key}
 use Rattle.order.specs.declared.search.Spot.{Spot}
 use Rattle.order.specs.declared.search.Spot.the-variants.{Here, Gap}
 use Rattle.order.proofs.Ascending.{ascending, upto}
-use Rattle.order.proofs.Names.{name-at}
+use Rattle.order.proofs.Names.{name-at, index-slot}
 use Rattle.model.specs.Cache.{Cache}
 use Rattle.model.specs.Row.{Page, byKey, those}
-use Rattle.order.proofs.Names.{index-slot}
 use Rattle.memory.specs.Memory.{Memory}
 use Rattle.memory.specs.Holds.{Holds}
 use Rattle.memory.specs.Walk.{walk}
