@@ -1,7 +1,7 @@
 -- From creation on, memory that only calls changed holds what the model's run of those calls comes to, so that what is proved
 -- of runs is proved of the memory.
 use mathlib.Core.List.{List, [], _∷_, _++_}
-use mathlib.Core.Path.{_≡_, refl, sym, subst}
+use mathlib.Core.Path.{_≡_, refl}
 use Prim.Native.Nat.{ℕ}
 use Rattle.page.specs.declared.cache.PageCache.{PageCache}
 use Rattle.model.specs.Cache.{Cache, fresh}
@@ -9,7 +9,7 @@ use Rattle.model.specs.Call.{Call}
 use Rattle.model.specs.Step.{step, run}
 use Rattle.memory.specs.Memory.{Memory}
 use Rattle.memory.specs.Holds.{Holds, Sound}
-use Rattle.contract.specs.Called.{State, Does, refuses, acts, Called, History, created, called}
+use Rattle.contract.specs.Called.{Does, refuses, acts, History, created, called}
 
 -- one call more
 run-snoc : (calls : List Call) (call : Call) (c : Cache) → run (calls ++ call ∷ []) c ≡ step call (run calls c) .cache

@@ -1,9 +1,9 @@
 -- A call that leaves the cache as it was, and lists nothing, leaves every lent word as it was: a cache determines its memory.
 -- So a refusal by a test alters nothing, nor does any refusal that lists nothing, every answer from 11 on among them.
-use mathlib.Core.List.{List, [], _∷_, _++_}
+use mathlib.Core.List.{List, [], _++_}
 use mathlib.Core.Logic.{_≢_}
-use mathlib.Core.Path.{_≡_, refl, sym, ap, _∙_, subst}
-use Prim.Native.Nat.{ℕ, zero, suc, _≤_}
+use mathlib.Core.Path.{_≡_, ap, _∙_, subst}
+use Prim.Native.Nat.{ℕ, suc, _≤_}
 use native.Mathlib.Omega.{arith}
 use lib.ListN.{length, drop}
 use Rattle.page.specs.declared.cache.PageCache.{PageCache}
@@ -15,7 +15,7 @@ use Rattle.model.specs.Tests.{refusal}
 use Rattle.model.proofs.Kept.{refused-unchanged, unlisted-unchanged, high-code-unchanged}
 use Rattle.model.proofs.KeptInsertion.{no-handles}
 use Rattle.model.proofs.KeptLeaves.{Refusal}
-use Rattle.memory.specs.Holds.{Holds, Sound}
+use Rattle.memory.specs.Holds.{Holds}
 use Rattle.memory.proofs.Once.{holds-memory}
 use Rattle.memory.proofs.OnceKept.{holds-kept}
 use Rattle.answer.specs.Answer.{Comes, codeOf}
