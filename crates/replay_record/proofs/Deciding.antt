@@ -1,5 +1,5 @@
 -- The tests in the order in which they are made come to what the bytes say, and so do the fields.
-use mathlib.Core.Path.{_≡_, refl, sym, ap, _∙_}
+use mathlib.Core.Path.{_≡_, sym, _∙_}
 use mathlib.Core.Bool.{Bool, true, false}
 use mathlib.Core.List.{List}
 use Prim.Native.Nat.{ℕ}
@@ -8,7 +8,6 @@ use lib.ListN.{length, getD}
 use borrow.Author.Tests.{eq-eqb, ne-eqb}
 use Rattle.replay_record.specs.Fields.{number, ReadAt, fields, bad, decoded}
 use Rattle.replay_record.specs.declared.record.Record.{Record}
-use Rattle.replay_record.specs.declared.record.Decoded.{Decoded}
 use Rattle.replay_record.specs.declared.record.Decoded.the-variants.{Bad, Good}
 
 module _ {b : List ℕ} where

@@ -5,8 +5,6 @@ use native.Mathlib.Omega.{arith}
 use Rattle.replay_record.proofs.Reading.{Read, read-none, read-room, read-more, read-all}
 use Rattle.replay_record.proofs.number.number_at.Statement.{statement}
 use Rattle.replay_record.proofs.number.number_at.Tie as tie
-use Rattle.replay_record.proofs.number.number_at.Reads as reads
-use Rattle.replay_record.proofs.number.number_at.Lts as lts
 
 abbrev Inv-loop : tie.InvT-loop
 Inv-loop bytes at width left₀ n₀ left n = Read bytes at width left n
