@@ -4,8 +4,7 @@ use native.Mathlib.Omega.{arith}
 use borrow.Author.Needs.{needs}
 use borrow.Author.Tests.{not-true, not-false}
 use Rattle.wal.proofs.Reach.{reach-within}
-use Rattle.wal.proofs.Descent.{found-other, found-newest}
-use Rattle.wal.proofs.Descent.{Descent, descent-start, descent-room, descent-hit, descent-more, descent-done}
+use Rattle.wal.proofs.Descent.{found-other, found-newest, Descent, descent-start, descent-room, descent-hit, descent-more, descent-done}
 use Rattle.wal.proofs.find.find_frame.Statement.{statement}
 use Rattle.wal.proofs.find.find_frame.Tie as tie
 
