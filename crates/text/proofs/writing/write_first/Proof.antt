@@ -1,5 +1,4 @@
 -- As many bytes as there are.
-use Prim.Native.Nat.{_-_}
 use lib.ListN.{length-take}
 use native.Mathlib.Omega.{arith}
 use borrow.Author.Needs.{needs}
