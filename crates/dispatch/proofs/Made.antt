@@ -8,7 +8,7 @@ use lib.ListN.{length}
 use borrow.Author.Tests.{lt-ltb, le-ltb}
 use Rattle.page.specs.declared.cache.PageCache.{PageCache}
 use Rattle.model.specs.Cache.{Cache, fresh}
-use Rattle.model.specs.Call.{Call, create, Outcome, answer}
+use Rattle.model.specs.Call.{create, Outcome, answer}
 use Rattle.model.specs.Step.{act, step}
 use Rattle.memory.specs.Memory.{Memory}
 use Rattle.memory.specs.Holds.{Holds}
