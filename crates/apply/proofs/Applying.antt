@@ -2,7 +2,7 @@
 -- asks for sound memory.
 use mathlib.Core.Bool.{Bool, true, false, not, _||_, true≢false}
 use mathlib.Core.List.{List, [], _∷_}
-use mathlib.Core.Path.{_≡_, refl, sym, ap, subst, _∙_}
+use mathlib.Core.Path.{_≡_, refl, sym, subst, _∙_}
 use Prim.Native.Nat.{ℕ, zero, suc, _≤_, _<_}
 use native.Mathlib.Omega.{arith}
 use lib.Dec.{ltb}
@@ -17,7 +17,7 @@ use Rattle.memory.specs.Holds.{Sound}
 use Rattle.answer.specs.Answer.{plainly}
 use Rattle.answer.specs.declared.answer.Answer.the-variants.{NotSound, BadReplay}
 use Rattle.answer.specs.declared.answered.Answered.{Answered}
-use Rattle.contract.specs.Called.{State, Called, refuses, acts, Typed}
+use Rattle.contract.specs.Called.{State, refuses, acts, Typed}
 use Rattle.replay_record.specs.Fields.{decoded}
 use Rattle.replay_record.specs.Request.{Request, none, creation, call, operations, requestOf, requestIn}
 use Rattle.replay_record.specs.declared.record.Record.{Record}

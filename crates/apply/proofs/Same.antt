@@ -5,7 +5,6 @@ use mathlib.Core.Path.{_≡_, sym, ap, _∙_}
 use Prim.Native.Nat.{ℕ}
 use lib.ListN.{length}
 use Rattle.page.specs.declared.cache.PageCache.{PageCache}
-use Rattle.memory.specs.Memory.{Memory}
 use Rattle.creating.specs.declared.creating.Created.{Created}
 use Rattle.creating.proofs.Created.{SameCreation, created-same}
 use Rattle.answer.specs.declared.answered.Answered.{Answered}

@@ -12,7 +12,6 @@ use page::PageCache;
 use replay_record::Decoded;
 use replay_record::decode;
 use soundness::is_sound;
-ghost use lib.ListN.{length};
 ghost use Rattle.pool.specs.Tells.{Tells};
 ghost use Rattle.memory.specs.Memory.{memories};
 ghost use Rattle.contract.specs.Called.{lent};
