@@ -1,5 +1,5 @@
 -- A pool of 1,024 words has 256 slots.
-use Prim.Native.Nat.{_-_, _*_}
+use Prim.Native.Nat.{_*_}
 use mathlib.Core.Path.{_≡_}
 use lib.ListN.{length}
 use native.Mathlib.Omega.{arith}
