@@ -3,7 +3,6 @@ use mathlib.Core.Path.{refl}
 use borrow.Author.Needs.{needs}
 use Rattle.page_cache_c.specs.Exports.{unlisted}
 use Rattle.page_cache_c.proofs.Exporting.{lists-read}
-use Rattle.page_cache_c.specs.Exports.{unlisted}
 use Rattle.page_cache_c.proofs.pc_list.Statement.{statement}
 use Rattle.page_cache_c.proofs.pc_list.Tie as tie
 

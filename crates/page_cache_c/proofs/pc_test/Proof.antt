@@ -3,7 +3,6 @@ use mathlib.Core.Path.{refl}
 use borrow.Author.Needs.{needs}
 use Rattle.page_cache_c.specs.Exports.{untested}
 use Rattle.page_cache_c.proofs.Exporting.{tests-sound, tests-not-sound}
-use Rattle.page_cache_c.specs.Exports.{untested, sound}
 use Rattle.page_cache_c.proofs.pc_test.Statement.{statement}
 use Rattle.page_cache_c.proofs.pc_test.Tie as tie
 
