@@ -82,7 +82,9 @@ module _ (m : Memory) (head : PageCache) (ch : Checked m head) where
 
   -- `held` different unmarked slots are all the unmarked ones
   all-unmarked : (l : List ℕ) → Apart l → All (Taken (m .marks) size) l → length l ≡ head .held → (k : ℕ) → k < size → has k l ≡ unmarked (m .marks) k
-  all-unmarked l d g e = covers l (unmarked (m .marks)) size d (each-weaken _ _ (λ k t. (t .inside, eq-eqb (bitAt (m .marks) k) 0 (t .held))) l g) (e ∙ sym (ch .marks .count))
+  all-unmarked l d g e =
+      covers l (unmarked (m .marks)) size d (each-weaken _ _ (λ k t. (t .inside, eq-eqb (bitAt (m .marks) k) 0 (t .held))) l g)
+      (e ∙ sym (ch .marks .count))
 
   seats-taken : All (Taken (m .marks) size) seats
   seats-taken = subst (λ (s : ℕ). All (Taken (m .marks) s) seats) es-long (ch .ring .taken)
@@ -191,7 +193,8 @@ module _ {m : Memory} {head : PageCache} {c : Cache} (hd : Holds m head c) where
   sound-es = entries (m .slots)
 
   seat-below : Below (c .size) (hd .seats)
-  seat-below = subst (λ (s : ℕ). Below s (hd .seats)) (length-map sound-es (λ (e : PageCacheEntry). e .next .0) ∙ holds-size hd) (hd .seated .ring .inside)
+  seat-below =
+      subst (λ (s : ℕ). Below s (hd .seats)) (length-map sound-es (λ (e : PageCacheEntry). e .next .0) ∙ holds-size hd) (hd .seated .ring .inside)
 
   seat-taken : (k : ℕ) → has k (hd .seats) ≡ true → Taken (m .marks) (c .size) k
   seat-taken k e =
