@@ -1,7 +1,7 @@
 -- The tests before the rules are the model's, in the model's order: so the call answers a refusal where the model does, and
 -- otherwise acts.
 use mathlib.Core.Path.{_≡_, refl}
-use mathlib.Core.Bool.{true, false}
+use mathlib.Core.Bool.{true}
 use mathlib.Core.List.{List}
 use Prim.Native.Nat.{ℕ, _≤_, _<_, _^_}
 use lib.ListN.{length}

@@ -16,8 +16,8 @@
 //
 // Callers may rely on this: if the memory holds a cache before the move, it holds the changed cache after it, with the head
 // that comes back. No move searches for the page that it changes: it is told the slot, and the caller has found the page
-// there (`StandsAt`, specs/Moves.antt); `place` is told the gaps of the new page's names (`GapsOf`). What a move isn't lent it doesn't change, and its contract holds whatever stands
-// there.
+// there (`StandsAt`, specs/Moves.antt); `place` is told the gaps of the new page's names (`GapsOf`). What a move isn't lent it doesn't
+// change, and its contract holds whatever stands there.
 //
 // No move tests anything that a rule asks. Whether the page may be deleted, whether there is room, whether the handle is
 // free: the calls have asked before.

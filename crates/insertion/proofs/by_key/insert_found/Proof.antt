@@ -4,6 +4,14 @@ use Rattle.insertion.proofs.Keys.{found-inside, found-replaceable, foun
 use Rattle.insertion.proofs.by_key.insert_found.Statement.{statement}
 use Rattle.insertion.proofs.by_key.insert_found.Tie as tie
 
+-- ── from each place back to the one before it ────────────────────────────────
+abbrev start-of : tie.After-load → tie.Start
+start-of c = c .before .before .before .before .before .before .before
+
+abbrev loaded : tie.After-is-stale → tie.After-load
+loaded c = c .before .before
+
+-- ── the needs ────────────────────────────────────────────────────────────────
 load-requires : tie.Need-load-requires
 load-requires c κs = found-inside (c .before .before .before .before .before .before .pre)
 
@@ -11,7 +19,9 @@ is-stale-requires : tie.Need-is-stale-requires
 is-stale-requires c κs = search needs
 
 insert-stale-requires : tie.Need-insert-stale-requires
-insert-stale-requires c κs = (c .before .before .before .before .before .before .before .before .before .before .before .before .before .before .before .pre)
+insert-stale-requires c κs =
+    let tested = c .before .before .before .before .before .before in
+    start-of (loaded tested) .pre
 
 same-length : tie.Need-same-length
 same-length c = search needs
@@ -33,11 +43,12 @@ returns c =
     let at-insert-stale = c .before .before .before .before .before .before .before .before .before .before in
     let at-if1 = at-insert-stale .before .before .before .before .before .before in
     let at-is-stale = at-if1 .before in
-    let at-load = at-is-stale .before .before in
-    found-stale (at-load .load .ensures) (at-is-stale .is-stale .ensures) (at-if1 .if1 .taken) (at-insert-stale .insert-stale .ensures)
+    found-stale (loaded at-is-stale .load .ensures) (at-is-stale .is-stale .ensures) (at-if1 .if1 .taken) (at-insert-stale .insert-stale .ensures)
 
 present-requires : tie.Need-present-requires
-present-requires c κs = found-replaceable (c .before .before .before .before .before .before .before .before .before .before .before .before .pre)
+present-requires c κs =
+    let tested = c .before .before .before in
+    found-replaceable (start-of (loaded tested) .pre)
 
 same-length-6 : tie.Need-same-length-6
 same-length-6 c = search needs
@@ -50,8 +61,7 @@ returns-2 c =
     let at-present = c .before .before .before .before in
     let at-if1 = at-present .before .before .before in
     let at-is-stale = at-if1 .before in
-    let at-load = at-is-stale .before .before in
-    found-present (at-load .load .ensures) (at-is-stale .is-stale .ensures) (at-if1 .if1 .left) (at-present .present .ensures)
+    found-present (loaded at-is-stale .load .ensures) (at-is-stale .is-stale .ensures) (at-if1 .if1 .left) (at-present .present .ensures)
 
 pub insert-found-spec : {M : Type 1} → statement M
 insert-found-spec =
