@@ -9,6 +9,7 @@ use native.Mathlib.Omega.{arith}
 use lib.ListN.{length}
 use borrow.Author.Tests.{ltb-true, not-true, not-false}
 use Rattle.page.specs.Cache.{maxSlots}
+use Rattle.page.specs.Record.{allFlags}
 use Rattle.page.specs.declared.cache.PageCache.{PageCache}
 use Rattle.page.specs.declared.record.PageRecord.{PageRecord}
 use Rattle.free_marks.specs.Marks.{Wide}
@@ -146,7 +147,7 @@ module _ {m : Memory} {head : PageCache} {c : Cache} (H : Holds m head c) {list 
         λ i. made .full i && not (same i)
 
     pub room-placeable : {gaps : Gaps} {key handle : ℕ} {page : PageRecord} → Kept c
-        → GapsOf (m′ .slots) (m′ .by-key) (m′ .by-handle) (r .head .held) key handle gaps → page .flags ≤ 31 → r .full && not goes ≡ false
+        → GapsOf (m′ .slots) (m′ .by-key) (m′ .by-handle) (r .head .held) key handle gaps → page .flags ≤ allFlags → r .full && not goes ≡ false
         → Placeable m′ (r .head) gaps key handle page
     room-placeable k right flags q = record {
       cache = makeRoom c .cache;

@@ -6,6 +6,7 @@ use mathlib.Core.List.{List}
 use Prim.Native.Nat.{ℕ, _≤_, _<_, _^_}
 use lib.ListN.{length}
 use borrow.Author.Tests.{lt-ltb, le-ltb}
+use Rattle.page.specs.Record.{allFlags}
 use Rattle.page.specs.declared.cache.PageCache.{PageCache}
 use Rattle.free_marks.specs.Marks.{Wide}
 use Rattle.model.specs.Cache.{Cache}
@@ -32,27 +33,27 @@ asking asked list = insert (insertionOf (asked .form)) (asked .key .0) (asked .h
 
 module _ (asked : Request) {list : List ℕ} {m : Memory} {head : PageCache} {c : Cache} (H : Holds m head c) where
   -- ── a test that fails ──────────────────────────────────────────────────────
-  pub bad-record : 31 < asked .page .flags → Comes (step (asking asked list) c) list m list (plainly BadRecord head)
-  bad-record bad = comes-as (step-bad-record (asking asked list) refl (lt-ltb 31 (asked .page .flags) bad)) (plain-comes BadRecord H list)
+  pub bad-record : allFlags < asked .page .flags → Comes (step (asking asked list) c) list m list (plainly BadRecord head)
+  bad-record bad = comes-as (step-bad-record (asking asked list) refl (lt-ltb allFlags (asked .page .flags) bad)) (plain-comes BadRecord H list)
 
-  module _ (good : asked .page .flags ≤ 31) where
+  module _ (good : asked .page .flags ≤ allFlags) where
     pub short-list : length list < head .held → Comes (step (asking asked list) c) list m list (plainly ShortList head)
-    short-list short = comes-as (step-short-list (asking asked list) refl (le-ltb 31 (asked .page .flags) good) (list-short H short)) (plain-comes ShortList H list)
+    short-list short = comes-as (step-short-list (asking asked list) refl (le-ltb allFlags (asked .page .flags) good) (list-short H short)) (plain-comes ShortList H list)
 
     module _ (long : head .held ≤ length list) where
       pub elsewhere : underOther (asked .key .0) (asked .handle .0) (c .row) ≡ true → Comes (step (asking asked list) c) list m list (plainly HandleElsewhere head)
       elsewhere there =
-          comes-as (step-elsewhere (asking asked list) refl (le-ltb 31 (asked .page .flags) good) (list-long H long) there) (plain-comes HandleElsewhere H list)
+          comes-as (step-elsewhere (asking asked list) refl (le-ltb allFlags (asked .page .flags) good) (list-long H long) there) (plain-comes HandleElsewhere H list)
 
       -- ── none fails ─────────────────────────────────────────────────────────
       acts : Free asked c → {m′ : Memory} {list′ : List ℕ} {r : Answered} → Comes (onInsert (asked .key .0) (asked .handle .0) (asked .page) (insertionOf (asked .form)) c) list m′ list′ r
           → Comes (step (asking asked list) c) list m′ list′ r
       unfolding act
       acts free comes =
-          comes-as (step-acts (asking asked list) (record { capacity = refl; state = le-ltb 31 (asked .page .flags) good; places = list-long H long; naming = free })) comes
+          comes-as (step-acts (asking asked list) (record { capacity = refl; state = le-ltb allFlags (asked .page .flags) good; places = list-long H long; naming = free })) comes
 
 -- the words of the slots are of 64 bits, and the estimate of 32: so the cache is within its limits
-module _ {m : Memory} {head : PageCache} {list : List ℕ} {asked : Request} (good : asked .page .flags ≤ 31)
+module _ {m : Memory} {head : PageCache} {list : List ℕ} {asked : Request} (good : asked .page .flags ≤ allFlags)
     (long : head .held ≤ length list) (wide : Wide (m .slots)) (small : head .estimate < 2 ^ 32) where
   -- the handle stands nowhere
   pub call-insertable : {gap : ℕ} → HandleGap (m .slots) (m .by-handle) (head .held) (asked .handle .0) gap → Sound m head

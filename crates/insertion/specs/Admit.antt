@@ -5,6 +5,7 @@ use mathlib.Core.List.{List}
 use Prim.Native.Nat.{ℕ, _+_, _≤_}
 use lib.ListN.{length}
 use Rattle.page.specs.Cache.{maxSlots}
+use Rattle.page.specs.Record.{allFlags}
 use Rattle.page.specs.declared.cache.PageCache.{PageCache}
 use Rattle.model.specs.Cache.{Cache}
 use Rattle.model.specs.Call.{Outcome, listing}
@@ -34,7 +35,7 @@ pub record Admissible (m : Memory) (head : PageCache) (list : List ℕ) (listed 
   pub holds : Holds m head cache
   pub kept : Kept cache
   pub right : GapsOf (m .slots) (m .by-key) (m .by-handle) (head .held) (asked .key .0) (asked .handle .0) gaps
-  pub flags : asked .page .flags ≤ 31
+  pub flags : asked .page .flags ≤ allFlags
   pub places : listed + head .held ≤ length list
   pub few : listed + head .held ≤ maxSlots
 

@@ -3,6 +3,7 @@ use mathlib.Core.List.{List}
 use mathlib.Core.Option.{some}
 use Prim.Native.Nat.{ℕ, _≤_}
 use lib.ListN.{length}
+use Rattle.page.specs.Record.{allFlags}
 use Rattle.page.specs.declared.cache.PageCache.{PageCache}
 use Rattle.model.specs.Cache.{Cache}
 use Rattle.model.specs.Limits.{Kept}
@@ -31,7 +32,7 @@ pub record Insertable (m : Memory) (head : PageCache) (list : List ℕ) (gap : �
   pub holds : Holds m head cache
   pub kept : Kept cache
   pub nowhere : HandleGap (m .slots) (m .by-handle) (head .held) (asked .handle .0) gap
-  pub flags : asked .page .flags ≤ 31
+  pub flags : asked .page .flags ≤ allFlags
   pub long : head .held ≤ length list
 
 -- rules 5, 6 and 7

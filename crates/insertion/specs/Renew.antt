@@ -5,6 +5,7 @@ use mathlib.Core.Bool.{false}
 use mathlib.Core.List.{List}
 use Prim.Native.Nat.{ℕ, _≤_}
 use lib.ListN.{length}
+use Rattle.page.specs.Record.{allFlags}
 use Rattle.page.specs.declared.cache.PageCache.{PageCache}
 use Rattle.model.specs.Cache.{Cache}
 use Rattle.model.specs.Limits.{Kept}
@@ -32,7 +33,7 @@ pub record Found (m : Memory) (head : PageCache) (list : List ℕ) (s : ℕ) (as
   pub kept : Kept cache
   pub stands : StandsAt (cache .row) (asked .key .0) s entry
   pub free : Free asked cache
-  pub flags : asked .page .flags ≤ 31
+  pub flags : asked .page .flags ≤ allFlags
   pub long : head .held ≤ length list
 
 -- the page is deleted, and the new one goes in as under an absent key; or rule 8 refuses

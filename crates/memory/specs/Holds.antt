@@ -6,6 +6,7 @@ use Prim.Native.Nat.{ℕ, _+_, _*_, _/_, _≤_, _<_}
 use lib.ListN.{length, getD}
 use Rattle.page.specs.Cache.{maxSlots}
 use Rattle.page.specs.Entry.{refMax}
+use Rattle.page.specs.Record.{allFlags}
 use Rattle.page.specs.declared.cache.PageCache.{PageCache}
 use Rattle.page.specs.declared.entry.PageCacheEntry.{PageCacheEntry}
 use Rattle.ring_links.specs.Links.{RingOf}
@@ -54,7 +55,7 @@ pub record Headed (head : PageCache) (c : Cache) (seats : List ℕ) : Type 0 whe
 
 -- a page record is good, and a use count is 0 to 3
 pub record Fine (e : Entry) : Type 0 where
-  pub flags : e .page .state .flags ≤ 31
+  pub flags : e .page .state .flags ≤ allFlags
   pub uses : e .uses ≤ refMax
 
 -- a pool has 1 to 4,096 slots, and capacity is 0 to S

@@ -11,7 +11,7 @@ use native.Mathlib.Omega.{arith}
 use lib.Dec.{eqb, ltb}
 use lib.ListN.{length}
 use borrow.Author.Tests.{ltb-true, ltb-false}
-use Rattle.page.specs.Record.{stale}
+use Rattle.page.specs.Record.{allFlags, stale}
 use Rattle.page.specs.declared.record.PageRecord.{PageRecord}
 use Rattle.page.proofs.Each.{each-remove}
 use Rattle.model.specs.Row.{Page, Entry, Row, Each, find}
@@ -73,7 +73,7 @@ module _ (key handle : ℕ) (state : PageRecord) where
   admit-code : (how : Insertion) (c : Cache) → Kept c → 11 ≤ admit key handle state how c .code → c .size ≤ heldIn c
   admit-code how c k high = omega (arith, room-code how (makeRoom c) high, make-room-size c, make-room c k .count)
 
-  module _ (flags : state .flags ≤ 31) where
+  module _ (flags : state .flags ≤ allFlags) where
     -- ── the key is absent ────────────────────────────────────────────────────
     place-kept : (c : Cache) → Kept c → heldIn c < c .size → Absent (c .row) → Given → Kept (place key handle state c .cache)
     place-kept c k room a g =

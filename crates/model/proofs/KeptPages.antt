@@ -7,6 +7,7 @@ use mathlib.Core.Path.{_≡_, refl}
 use Prim.Native.Nat.{ℕ, suc, _≤_, _<_, _^_}
 use native.Mathlib.Omega.{arith}
 use lib.ListN.{length, length-append}
+use Rattle.page.specs.Record.{allFlags}
 use Rattle.page.specs.declared.record.PageRecord.{PageRecord}
 use Rattle.page.proofs.Each.{each-middle}
 use Rattle.model.specs.Row.{Page, Entry, Row, Each, find, change, without}
@@ -117,7 +118,7 @@ module _ (c : Cache) (k : Kept c) (key : ℕ) (e : Entry) (s : Stands key (c .ro
       } in
       change-kept touched (c .estimate) (k .estimate) g refl refl other-handles
 
-  pub rewrite-kept : (state : PageRecord) → state .flags ≤ 31 → Fit state → Kept (rewrite key state c)
+  pub rewrite-kept : (state : PageRecord) → state .flags ≤ allFlags → Fit state → Kept (rewrite key state c)
   rewrite-kept state flags fit =
       let g : Good (c .size) (rewritten state e) = record {
         slot = stands-good .slot;
@@ -131,7 +132,7 @@ module _ (c : Cache) (k : Kept c) (key : ℕ) (e : Entry) (s : Stands key (c .ro
 
 -- another page in its place, with a handle that no other page has
 replace-kept : (c : Cache) → Kept c → (e : Entry) (s : Stands (e .page .key) (c .row) e) (handle : ℕ) (state : PageRecord)
-    → handle < 2 ^ 32 → state .flags ≤ 31 → Fit state → Each (OtherHandle handle) (s .before ++ s .after)
+    → handle < 2 ^ 32 → state .flags ≤ allFlags → Fit state → Each (OtherHandle handle) (s .before ++ s .after)
     → Kept (replace (e .page) handle state c)
 replace-kept c k e s handle state small flags fit new-handle =
     let old : Good (c .size) e = stands-good c k (e .page .key) e s in
@@ -149,7 +150,7 @@ replace-kept c k e s handle state small flags fit new-handle =
 
 -- a touch first
 pub upsert-kept : (c : Cache) → Kept c → (key : ℕ) (e : Entry) (s : Stands key (c .row) e) (handle : ℕ) (state : PageRecord)
-    → handle < 2 ^ 32 → state .flags ≤ 31 → Fit state → Each (OtherHandle handle) (s .before ++ s .after)
+    → handle < 2 ^ 32 → state .flags ≤ allFlags → Fit state → Each (OtherHandle handle) (s .before ++ s .after)
     → Kept (replace (e .page) handle state (touch key c))
 upsert-kept c k key e s = replace-kept (touch key c) (touch-kept c k key e s) (touched e)
     (stands-own key (touch key c .row) (touched e) (stands-changed key (c .row) e s touched (s .named)))

@@ -11,7 +11,7 @@ use lib.Dec.{eqb}
 use lib.ListN.{length, length-append, length-map, length-take}
 use borrow.Author.Tests.{ltb-false}
 use Rattle.page.specs.Cache.{pageOne}
-use Rattle.page.specs.Record.{dirty, stale}
+use Rattle.page.specs.Record.{allFlags, dirty, stale}
 use Rattle.page.specs.declared.record.PageRecord.{PageRecord}
 use Rattle.model.specs.Row.{Page, Entry, Row, find, byKey, those}
 use Rattle.model.specs.Cache.{Cache, heldIn, withCapacity, withSpill, fresh, estimateMax, up, down, leave, rewrite}
@@ -122,7 +122,7 @@ module _ {given : Type 0} (c : Cache) (k : Kept c) where
       n : ℕ
       n = by (c .estimate)
 
-  write-leaves : (key : ℕ) (state : PageRecord) → (given → Fit state) → state .flags ≤ 31
+  write-leaves : (key : ℕ) (state : PageRecord) → (given → Fit state) → state .flags ≤ allFlags
       → (v : Option Entry) → find key (c .row) ≡ v → Leaves c (heldIn c) given (writeFound key state v c)
   write-leaves key state fit flags none q = leaves-same c 4 0 k
   write-leaves key state fit flags (some e) q = leaves-done c (answer 0 0 (rewrite key state c)) (inl refl) (omega arith)
@@ -177,7 +177,7 @@ unfolding act
 act-leaves (create capacity) c k t = leaves-done c (answer 0 0 (fresh (c .size) capacity)) (inl refl) (omega arith)
     (λ _. fresh-kept (c .size) capacity (ltb-false (c .size) capacity (t .capacity)))
 act-leaves (insert how key handle state places) c k t =
-    insert-leaves key handle state (ltb-false 31 (state .flags) (t .state)) how c k (t .naming)
+    insert-leaves key handle state (ltb-false allFlags (state .flags) (t .state)) how c k (t .naming)
 act-leaves (lookup key places) c k t = lookup-leaves c k key (find key (c .row)) refl
 act-leaves (peek key asked) c k t = peek-leaves c k key asked (find key (c .row)) refl
 act-leaves (delete key places) c k t = delete-found-leaves c k key (find key (c .row)) refl
@@ -188,7 +188,7 @@ act-leaves (clear dirty-too places) c k t = clear-leaves c k dirty-too
 act-leaves (notify-dirty key) c k t = notified-leaves c k down (omega (arith, k .estimate)) (find key (c .row))
 act-leaves (notify-spilled key) c k t = notified-leaves c k up (omega arith) (find key (c .row))
 act-leaves (write key state) c k t =
-    write-leaves c k key state (λ fit. fit) (ltb-false 31 (state .flags) (t .state)) (find key (c .row)) refl
+    write-leaves c k key state (λ fit. fit) (ltb-false allFlags (state .flags) (t .state)) (find key (c .row)) refl
 act-leaves (spill most places) c k t = spill-leaves c k most
 act-leaves (evict-one places) c k t = evict-one-leaves c k (c .row)
 act-leaves (switch on) c k t = leaves-done c (answer 0 0 (withSpill on c)) (inl refl) (omega arith) (λ _. switch-kept on c k)

@@ -2,6 +2,7 @@
 use mathlib.Core.List.{List, [], _∷_}
 use mathlib.Core.Logic.{_≢_}
 use Prim.Native.Nat.{ℕ, _≤_, _<_, _^_}
+use Rattle.page.specs.Record.{allFlags}
 use Rattle.page.specs.declared.record.PageRecord.{PageRecord}
 use Rattle.model.specs.Row.{Page, Entry, Row, Each}
 use Rattle.model.specs.Demand.{Limited}
@@ -25,7 +26,7 @@ pub record Good (size : ℕ) (e : Entry) : Type 0 where
   pub slot : e .page .slot < size
   pub key : e .page .key < 2 ^ 32
   pub handle : e .page .handle < 2 ^ 32
-  pub flags : e .page .state .flags ≤ 31
+  pub flags : e .page .state .flags ≤ allFlags
   pub fit : Fit (e .page .state)
   pub uses : Limited e
 

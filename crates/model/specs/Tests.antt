@@ -4,6 +4,7 @@ use mathlib.Core.List.{[], _∷_}
 use mathlib.Core.Option.{Option, none, some}
 use Prim.Native.Nat.{ℕ}
 use lib.Dec.{eqb, ltb}
+use Rattle.page.specs.Record.{allFlags}
 use Rattle.page.specs.declared.record.PageRecord.{PageRecord}
 use Rattle.model.specs.Row.{Row}
 use Rattle.model.specs.Cache.{Cache, heldIn}
@@ -46,7 +47,7 @@ tooLarge (some n) c = ltb (c .size) n
 -- 2: flags > 31
 abbrev pub badRecord : Option PageRecord → Bool
 badRecord none = false
-badRecord (some p) = ltb 31 (p .flags)
+badRecord (some p) = ltb allFlags (p .flags)
 
 -- 3: list shorter than held
 abbrev pub shortList : Option ℕ → Cache → Bool

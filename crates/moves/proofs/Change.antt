@@ -8,6 +8,7 @@ use Prim.Native.Nat.{ℕ, _+_, _≤_, _<_}
 use native.Mathlib.Nat.{min-le-left}
 use lib.ListN.{length, getD, set}
 use Rattle.page.specs.Entry.{refMax, withUses, raised}
+use Rattle.page.specs.Record.{allFlags}
 use Rattle.page.specs.declared.cache.PageCache.{PageCache}
 use Rattle.page.specs.declared.entry.PageCacheEntry.{PageCacheEntry}
 use Rattle.page.specs.declared.names.PageCacheKey.{PageCacheKey}
@@ -149,7 +150,7 @@ module _ {slots by-key by-handle marks : List ℕ} {head : PageCache} {c : Cache
       changed-alone H at st (record { next = refl; prev = refl; spare = refl; key = refl }) touched (ap {B = Entry} touched entry-is)
       (record { flags = fine-e .flags; uses = min-le-left refMax (e .uses + 1) }) refl
 
-  pub rewritten-at : {slots′ : List ℕ} {page : PageRecord} → page .flags ≤ 31
+  pub rewritten-at : {slots′ : List ℕ} {page : PageRecord} → page .flags ≤ allFlags
       → Stored slots s (withPage (getD (entries slots) s blank) page) slots′
       → Holds (memoryOf slots′ by-key by-handle marks) head (rewrite key page c)
   rewritten-at {page = page} flags st =

@@ -11,6 +11,7 @@ use lib.ListN.{length, getD, length-map}
 use borrow.Author.Tests.{eq-eqb, ne-eqb}
 use Rattle.page.specs.Cache.{maxSlots}
 use Rattle.page.specs.Entry.{newEntry}
+use Rattle.page.specs.Record.{allFlags}
 use Rattle.page.specs.declared.cache.PageCache.{PageCache}
 use Rattle.page.specs.declared.entry.PageCacheEntry.{PageCacheEntry}
 use Rattle.page.specs.declared.names.PageCacheKey.{PageCacheKey}
@@ -138,7 +139,7 @@ module _ {m : Memory} {head : PageCache} {c : Cache} (H : Holds m head c) where
 
   -- ── what the code leaves ───────────────────────────────────────────────────
   module _ {gaps : Gaps} {key : PageCacheKey} {handle : PageHandle} {page : PageRecord} {m′ : Memory} {head′ : PageCache}
-      (right : GapsOf (m .slots) (m .by-key) (m .by-handle) (head .held) (key .0) (handle .0) gaps) (flags : page .flags ≤ 31)
+      (right : GapsOf (m .slots) (m .by-key) (m .by-handle) (head .held) (key .0) (handle .0) gaps) (flags : page .flags ≤ allFlags)
       (t : PutTogether m head gaps key handle page m′ head′) where
     abbrev s : ℕ
     s = t .slot .0

@@ -6,6 +6,7 @@ use mathlib.Core.List.{List, _∷_, _++_}
 use mathlib.Core.Option.{some}
 use Prim.Native.Nat.{ℕ, _≤_, _<_}
 use lib.ListN.{length, getD, set}
+use Rattle.page.specs.Record.{allFlags}
 use Rattle.page.specs.declared.cache.PageCache.{PageCache}
 use Rattle.page.specs.declared.entry.PageCacheEntry.{PageCacheEntry}
 use Rattle.page.specs.declared.names.PageHandle.{PageHandle}
@@ -97,7 +98,7 @@ module _ {slots by-key by-handle marks : List ℕ} {head : PageCache} {c : Cache
   own = record { found = subst (λ (k : ℕ). find k (c .row) ≡ some e) (sym (standing-here .key-is)) (at .found); slot = at .slot }
 
   pub replaced-at : {handle : PageHandle} {page : PageRecord} {slots′ by-handle′ : List ℕ} {head′ : PageCache} → underOther key (handle .0) (c .row) ≡ false
-      → page .flags ≤ 31 → Replaced slots by-handle head s handle page slots′ by-handle′ head′
+      → page .flags ≤ allFlags → Replaced slots by-handle head s handle page slots′ by-handle′ head′
       → Holds (memoryOf slots′ by-key by-handle′ marks) head′ (replace (e .page) (handle .0) page c)
   replaced-at {handle} {page} {slots′} {by-handle′} {head′} free flags r =
       let k = standing-here in

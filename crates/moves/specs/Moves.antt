@@ -7,6 +7,7 @@ use mathlib.Core.Logic.{_≢_}
 use mathlib.Core.Option.{none, some}
 use Prim.Native.Nat.{ℕ, _≤_, _<_}
 use lib.ListN.{length}
+use Rattle.page.specs.Record.{allFlags}
 use Rattle.page.specs.declared.cache.PageCache.{PageCache}
 use Rattle.page.specs.declared.entry.PageCacheEntry.{PageCacheEntry}
 use Rattle.page.specs.declared.record.PageRecord.{PageRecord}
@@ -118,7 +119,7 @@ pub record Placeable (m : Memory) (head : PageCache) (gaps : Gaps) (key handle :
   pub holds : Holds m head cache
   pub right : GapsOf (m .slots) (m .by-key) (m .by-handle) (head .held) key handle gaps
   pub room : heldIn cache < cache .size
-  pub flags : page .flags ≤ 31
+  pub flags : page .flags ≤ allFlags
 
 -- the new page has entered
 abbrev pub Places : Memory → PageCache → (key handle : ℕ) → PageRecord → Memory → PageCache → Type 0
@@ -141,7 +142,7 @@ Touches slots s slots′ =
 -- the slot exists, and the record is good
 pub record Rewritable (slots : List ℕ) (s : ℕ) (page : PageRecord) : Type 0 where
   pub slot : s < length (entries slots)
-  pub flags : page .flags ≤ 31
+  pub flags : page .flags ≤ allFlags
 
 -- whatever the other parts are, the page at slot s has the record
 abbrev pub Rewrites : (slots : List ℕ) (s : ℕ) → PageRecord → (slots′ : List ℕ) → Type 0
@@ -160,7 +161,7 @@ pub record Replaceable (slots by-handle : List ℕ) (head : PageCache) (s handle
   pub holds : Holds (memoryOf slots by-key by-handle marks) head cache
   pub stands : StandsAt (cache .row) key s entry
   pub free : underOther key handle (cache .row) ≡ false
-  pub flags : page .flags ≤ 31
+  pub flags : page .flags ≤ allFlags
 
 -- whatever the other parts are, the page at slot s has the handle and the record
 abbrev pub Replaces : (slots by-handle : List ℕ) → PageCache → (s handle : ℕ) → PageRecord → (slots′ by-handle′ : List ℕ) → PageCache → Type 0

@@ -3,6 +3,7 @@ use mathlib.Core.Path.{_≡_, refl, ap, _∙_}
 use mathlib.Core.Option.{Option, none}
 use Prim.Native.Nat.{ℕ, _≤_, _<_}
 use borrow.Author.Tests.{lt-ltb, le-ltb}
+use Rattle.page.specs.Record.{allFlags}
 use Rattle.page.specs.declared.cache.PageCache.{PageCache}
 use Rattle.page.specs.declared.record.PageRecord.{PageRecord}
 use Rattle.model.specs.Cache.{Cache, rewrite}
@@ -17,18 +18,18 @@ use Rattle.answer.specs.declared.answer.Answer.the-variants.{Done, BadRecord, A
 use Rattle.answer.proofs.Steps.{step-acts, step-bad-record, follows-as, plain-follows}
 use Rattle.moves.specs.Moves.{StandsAt}
 
-write-found : (key : ℕ) (c : Cache) {found : Option Entry} → find key (c .row) ≡ found → (page : PageRecord) → page .flags ≤ 31
+write-found : (key : ℕ) (c : Cache) {found : Option Entry} → find key (c .row) ≡ found → (page : PageRecord) → page .flags ≤ allFlags
     → step (write key page) c ≡ writeFound key page found c
 unfolding act
 write-found key c is page good =
-    step-acts (write key page) (record { capacity = refl; state = le-ltb 31 (page .flags) good; places = refl; naming = refl })
+    step-acts (write key page) (record { capacity = refl; state = le-ltb allFlags (page .flags) good; places = refl; naming = refl })
     ∙ ap {B = Outcome} (λ (x : Option Entry). writeFound key page x c) is
 
 module _ {m : Memory} {head : PageCache} {c : Cache} (H : Holds m head c) (key : ℕ) (page : PageRecord) where
-  pub write-bad : 31 < page .flags → Follows (step (write key page) c) m (plainly BadRecord head)
-  write-bad bad = follows-as (step-bad-record (write key page) refl (lt-ltb 31 (page .flags) bad)) (plain-follows BadRecord H)
+  pub write-bad : allFlags < page .flags → Follows (step (write key page) c) m (plainly BadRecord head)
+  write-bad bad = follows-as (step-bad-record (write key page) refl (lt-ltb allFlags (page .flags) bad)) (plain-follows BadRecord H)
 
-  module _ (good : page .flags ≤ 31) where
+  module _ (good : page .flags ≤ allFlags) where
     pub write-absent : find key (c .row) ≡ none → Follows (step (write key page) c) m (plainly Absent head)
     write-absent absent = follows-as (write-found key c absent page good) (plain-follows Absent H)
 

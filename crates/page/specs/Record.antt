@@ -8,6 +8,10 @@ use Rattle.page.specs.declared.record.Deletable.{Deletable}
 use Rattle.page.specs.declared.record.Deletable.the-variants.{Yes, Locked, Dirty, Pinned}
 
 -- ── flags: 1 loaded, 2 locked, 4 dirty, 8 spilled, 16 WAL tag ────────────────
+-- the sum of them all
+abbrev pub allFlags : ℕ
+allFlags = 31
+
 abbrev pub flagged : ℕ → PageRecord → Bool
 flagged flag p = not (eqb (bitAnd (p .flags) flag) 0)
 

@@ -8,6 +8,7 @@ use lib.Dec.{eqb}
 use lib.ListN.{length, getD}
 use Rattle.page.specs.Cache.{maxSlots}
 use Rattle.page.specs.Entry.{refMax}
+use Rattle.page.specs.Record.{allFlags}
 use Rattle.page.specs.declared.cache.PageCache.{PageCache}
 use Rattle.page.specs.declared.entry.PageCacheEntry.{PageCacheEntry}
 use Rattle.page.specs.All.{All}
@@ -122,7 +123,7 @@ pub record Lists (col order marks : List ℕ) (n : ℕ) : Type 0 where
 -- what the entry of a held slot has to be
 pub record Filled (e : PageCacheEntry) : Type 0 where
   pub uses : e .uses ≤ refMax
-  pub flags : e .page .flags ≤ 31
+  pub flags : e .page .flags ≤ allFlags
   pub spare : e .spare ≡ 0
 
 -- a held slot has a good entry, and a free one is all zero

@@ -5,6 +5,7 @@ use Prim.Native.Nat.{ℕ, _≤_, _<_}
 use lib.ListN.{length}
 use denote.Ref.{now}
 use borrow.Author.Needs.{needs}
+use Rattle.page.specs.Record.{allFlags}
 use Rattle.pool.specs.Slots.{entries}
 use Rattle.model.specs.Cache.{Cache}
 use Rattle.memory.specs.Holds.{Holds}
@@ -30,7 +31,7 @@ found c by-handle marks w H = rw (c .s .given .1) at (c .before .before .seat-of
 inside : (c : tie.After-s) → c .s .given .0 .0 .0 < length (entries (now (start c .args .slots)))
 inside c = let H = start c .pre .sound .holds in slot-inside H (found c _ _ _ H .stands)
 
-good : (c : tie.After-s) → start c .args .page .flags ≤ 31
+good : (c : tie.After-s) → start c .args .page .flags ≤ allFlags
 good c = c .before .before .before .before .if1 .left
 
 plain-requires : tie.Need-plain-requires
