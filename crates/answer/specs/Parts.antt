@@ -6,10 +6,10 @@ use Rattle.page.specs.declared.cache.PageCache.{PageCache}
 use Rattle.model.specs.Cache.{Cache}
 use Rattle.model.specs.Call.{Call}
 use Rattle.model.specs.Step.{step}
+use Rattle.memory.specs.Memory.{memoryOf}
 use Rattle.memory.specs.Holds.{Holds, Sound}
 use Rattle.answer.specs.Answer.{Follows}
 use Rattle.answer.specs.declared.answered.Answered.{Answered}
-use Rattle.moves.specs.Moves.{memoryOf}
 
 -- they are parts of a sound memory
 pub record SoundParts (slots by-key : List ℕ) (head : PageCache) : Type 0 where

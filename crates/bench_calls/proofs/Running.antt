@@ -5,7 +5,7 @@ use mathlib.Core.List.{List}
 use Prim.Native.Nat.{ℕ, _≤_}
 use lib.ListN.{length}
 use Rattle.page.specs.declared.cache.PageCache.{PageCache}
-use Rattle.memory.specs.Memory.{Memory}
+use Rattle.memory.specs.Memory.{Memory, memoryOf}
 use Rattle.memory.specs.Holds.{Sound}
 use Rattle.creating.specs.Creation.{done, too-large, bad-lengths, Creates}
 use Rattle.creating.specs.declared.creating.Created.{Created}
@@ -37,7 +37,7 @@ module _ (before : State) (head : PageCache) (after : State) (r : Answered) wher
 
 -- what holds between records: the memory is sound, and the lent parts have the lengths that they had
 pub record Running (slots₀ by-key₀ by-handle₀ marks₀ list₀ slots by-key by-handle marks list : List ℕ) (head : PageCache) (i count : ℕ) : Type 0 where
-  pub sound : Sound (record { slots = slots; by-key = by-key; by-handle = by-handle; marks = marks }) head
+  pub sound : Sound (memoryOf slots by-key by-handle marks) head
   pub slots-length : length slots ≡ length slots₀
   pub by-key-length : length by-key ≡ length by-key₀
   pub by-handle-length : length by-handle ≡ length by-handle₀

@@ -16,12 +16,12 @@ use Rattle.model.specs.Call.{Outcome}
 use Rattle.model.specs.Row.{Page, Entry, find}
 use Rattle.model.specs.Rules.{deleting, present, insertFound, onInsert}
 use Rattle.model.proofs.KeptCases.{either}
-use Rattle.memory.specs.Memory.{Memory}
+use Rattle.memory.specs.Memory.{Memory, memoryOf}
 use Rattle.memory.specs.Holds.{Holds}
 use Rattle.memory.proofs.OnceKept.{holds-held, holds-fits}
 use Rattle.answer.specs.declared.answered.Answered.{Answered}
 use Rattle.answer.proofs.Steps.{comes-as, wrote-none, unlisted-comes}
-use Rattle.moves.specs.Moves.{memoryOf, KeyAt, KeyGap, Replaceable}
+use Rattle.moves.specs.Moves.{KeyAt, KeyGap, Replaceable}
 use Rattle.moves.proofs.Search.{handle-miss}
 use Rattle.moves.proofs.Removal.{slot-inside}
 use Rattle.deletion.proofs.Deleting.{stored-is}

@@ -8,10 +8,11 @@ use Rattle.model.specs.Cache.{Cache}
 use Rattle.model.specs.Row.{Entry}
 use Rattle.model.specs.Rules.{present}
 use Rattle.model.specs.Tests.{underOther}
+use Rattle.memory.specs.Memory.{memoryOf}
 use Rattle.memory.specs.Holds.{Holds}
 use Rattle.answer.specs.Answer.{Follows}
 use Rattle.answer.specs.declared.answered.Answered.{Answered}
-use Rattle.moves.specs.Moves.{memoryOf, StandsAt}
+use Rattle.moves.specs.Moves.{StandsAt}
 use Rattle.insertion.specs.declared.form.Request.{Request}
 use Rattle.insertion.specs.Form.{insertionOf}
 

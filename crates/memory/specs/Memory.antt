@@ -10,6 +10,10 @@ pub record Memory : Type 0 where
   pub by-handle : List ℕ
   pub marks : List ℕ
 
+-- the memory whose parts these are
+abbrev pub memoryOf : (slots by-key by-handle marks : List ℕ) → Memory
+memoryOf slots by-key by-handle marks = record { slots = slots; by-key = by-key; by-handle = by-handle; marks = marks }
+
 -- ── in a contract ────────────────────────────────────────────────────────────
 -- a lent slice, and one at entry and at exit
 abbrev pub Lent : Type 0
@@ -20,7 +24,7 @@ LentBoth = Both Lent Lent
 
 -- the memory that these slices are: for a `requires`
 abbrev pub memory : Lent → Lent → Lent → Lent → Memory
-memory slots by-key by-handle marks = record { slots = slots .now; by-key = by-key .now; by-handle = by-handle .now; marks = marks .now }
+memory slots by-key by-handle marks = memoryOf (slots .now) (by-key .now) (by-handle .now) (marks .now)
 
 -- the same at entry and at exit: for an `ensures`
 abbrev pub memories : LentBoth → LentBoth → LentBoth → LentBoth → Both Memory Memory

@@ -24,12 +24,12 @@ use Rattle.model.specs.Row.{Entry, Row, Each, find, change}
 use Rattle.model.specs.Sweep.{touched}
 use Rattle.model.specs.Tests.{underOther}
 use Rattle.model.proofs.ByKey.{find-stands, stands-changed, stands-find}
-use Rattle.memory.specs.Memory.{Memory}
+use Rattle.memory.specs.Memory.{Memory, memoryOf}
 use Rattle.memory.specs.Holds.{seen, rowOf, Seated, Fine, Holds}
 use Rattle.memory.proofs.Columns.{written-store, bare-here, row-else, row-append}
 use Rattle.memory.proofs.Seats.{seated-store, out-parts}
 use Rattle.memory.proofs.Standing.{Standing, standing-has, each-found, each-change, holds-standing, found-inside, found-alone, found-fine}
-use Rattle.moves.specs.Moves.{memoryOf, StandsAt}
+use Rattle.moves.specs.Moves.{StandsAt}
 use Rattle.moves.proofs.Search.{Fits, under-each, each-under}
 
 -- an entry was stored at slot s

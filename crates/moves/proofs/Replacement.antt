@@ -22,13 +22,14 @@ use Rattle.order.proofs.Listed.{listed-names}
 use Rattle.model.specs.Cache.{Cache, replaced, replacedEntry, replace, countOver}
 use Rattle.model.specs.Row.{Entry, Each, find}
 use Rattle.model.specs.Tests.{underOther}
+use Rattle.memory.specs.Memory.{memoryOf}
 use Rattle.memory.specs.Holds.{seen, rowOf, Holds}
 use Rattle.memory.proofs.Columns.{written-store, names-written}
 use Rattle.memory.proofs.Seats.{in-out}
 use Rattle.memory.proofs.Rows.{each-seat}
 use Rattle.memory.proofs.Standing.{Standing, standing-has, holds-standing, found-inside, found-seated, found-held, found-alone, found-fine}
 use Rattle.moves.specs.Counting.{countedOver}
-use Rattle.moves.specs.Moves.{memoryOf, StandsAt}
+use Rattle.moves.specs.Moves.{StandsAt}
 use Rattle.moves.specs.Relist.{Relistable, CanRelist, Relisted}
 use Rattle.moves.proofs.Search.{Fits, under-each}
 use Rattle.moves.proofs.Change.{Stored, headCounting, changed}

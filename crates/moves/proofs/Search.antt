@@ -28,7 +28,7 @@ use Rattle.model.specs.Tests.{underOther}
 use Rattle.model.proofs.ByKey.{none-find}
 use Rattle.model.proofs.KeptTests.{Under}
 use Rattle.model.proofs.KeptTests as tests
-use Rattle.memory.specs.Memory.{Memory}
+use Rattle.memory.specs.Memory.{Memory, memoryOf}
 use Rattle.memory.specs.Holds.{seen, rowOf, Holds}
 use Rattle.memory.proofs.Rows.{each-seat, seat-each}
 use Rattle.memory.proofs.Standing.{seat-found}
@@ -37,7 +37,7 @@ use Rattle.moves.specs.declared.finding.Seat.{Seat}
 use Rattle.moves.specs.declared.finding.Seat.the-variants as variants
 use Rattle.moves.specs.declared.finding.HandleSeat.{HandleSeat}
 use Rattle.moves.specs.declared.finding.HandleSeat.the-variants.{Elsewhere, UnderKey, Nowhere}
-use Rattle.moves.specs.Moves.{memoryOf, KeyAt, KeyGap, SeatIs, SeatGap, Seats, HandleGap, HandleIs, HandleSeatGap, SeatsHandle, NewNames, GapsOf}
+use Rattle.moves.specs.Moves.{KeyAt, KeyGap, SeatIs, SeatGap, Seats, HandleGap, HandleIs, HandleSeatGap, SeatsHandle, NewNames, GapsOf}
 
 -- ── a handle under another key ───────────────────────────────────────────────
 module _ (key handle : ℕ) where

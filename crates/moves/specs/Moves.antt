@@ -19,17 +19,13 @@ use Rattle.order.specs.declared.search.By.the-variants.{Key, Handle}
 use Rattle.model.specs.Cache.{Cache, heldIn, newPage, enter, leave, touch, rewrite, replace}
 use Rattle.model.specs.Row.{Entry, Row, Each, find}
 use Rattle.model.specs.Tests.{underOther}
-use Rattle.memory.specs.Memory.{Memory}
+use Rattle.memory.specs.Memory.{Memory, memoryOf}
 use Rattle.memory.specs.Holds.{Holds}
 use Rattle.moves.specs.declared.finding.Seat.{Seat}
 use Rattle.moves.specs.declared.finding.Seat.the-variants.{At, Absent}
 use Rattle.moves.specs.declared.finding.HandleSeat.{HandleSeat}
 use Rattle.moves.specs.declared.finding.HandleSeat.the-variants.{Elsewhere, UnderKey, Nowhere}
 use Rattle.moves.specs.declared.finding.Gaps.{Gaps}
-
--- the memory whose parts these are
-abbrev pub memoryOf : (slots by-key by-handle marks : List ℕ) → Memory
-memoryOf slots by-key by-handle marks = record { slots = slots; by-key = by-key; by-handle = by-handle; marks = marks }
 
 -- the entry that the row has under the key stands at slot s
 pub record StandsAt (row : Row) (key s : ℕ) (e : Entry) : Type 0 where

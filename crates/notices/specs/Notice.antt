@@ -8,8 +8,8 @@ use Rattle.page.specs.Cache.{pageOne}
 use Rattle.page.specs.declared.cache.PageCache.{PageCache}
 use Rattle.model.specs.Cache.{Cache}
 use Rattle.model.specs.Row.{Entry, find}
+use Rattle.memory.specs.Memory.{memoryOf}
 use Rattle.memory.specs.Holds.{Holds}
-use Rattle.moves.specs.Moves.{memoryOf}
 
 -- it does for a present page other than 1
 abbrev pub noticed : Option Entry → Bool

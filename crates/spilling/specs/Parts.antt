@@ -6,20 +6,16 @@ use lib.ListN.{length, getD}
 use Rattle.page.specs.declared.cache.PageCache.{PageCache}
 use Rattle.pool.specs.Slots.{entries}
 use Rattle.model.specs.Row.{Page}
-use Rattle.memory.specs.Memory.{Memory, Lent}
+use Rattle.memory.specs.Memory.{memoryOf}
 use Rattle.memory.specs.Holds.{Sound}
 use Rattle.answer.specs.Answer.{Wrote}
-
--- the memory of these two lent parts and the other two
-abbrev pub joined : Lent → Lent → (by-handle marks : List ℕ) → Memory
-joined slots by-key by-handle marks = record { slots = slots .now; by-key = by-key .now; by-handle = by-handle; marks = marks }
 
 -- they are parts of a sound memory that holds `held` pages
 pub record Readable (slots by-key : List ℕ) (held : ℕ) : Type 0 where
   pub by-handle : List ℕ
   pub marks : List ℕ
   pub head : PageCache
-  pub sound : Sound (record { slots = slots; by-key = by-key; by-handle = by-handle; marks = marks }) head
+  pub sound : Sound (memoryOf slots by-key by-handle marks) head
   pub same : head .held ≡ held
 
 -- and the list is as long as held

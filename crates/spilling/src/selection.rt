@@ -12,9 +12,10 @@ ghost use Rattle.model.specs.Cache.{Cache};
 ghost use Rattle.model.specs.Call.{spill};
 ghost use Rattle.model.specs.Spill.{selection, onSpill};
 ghost use Rattle.model.specs.Step.{step};
+ghost use Rattle.memory.specs.Memory.{memoryOf};
 ghost use Rattle.memory.specs.Holds.{Holds};
 ghost use Rattle.answer.specs.Answer.{Comes};
-ghost use Rattle.spilling.specs.Parts.{joined, Readable, Listable, Selected};
+ghost use Rattle.spilling.specs.Parts.{Readable, Listable, Selected};
 
 // Lists the handles of the first `most` pages by key that a spill may select, and says how many there are.
 fn collect_spillable_pages(
@@ -25,7 +26,7 @@ fn collect_spillable_pages(
     most: u64,
 ) -> u32
     requires { ⌜ Listable (now slots) (now «by_key») held (now list) ⌝ }
-    ensures { λ r. ⌜ ((by-handle marks : List ℕ) (head : PageCache) (c : Cache) → Holds (joined (slots .entry) («by_key» .entry) by-handle marks) head c → head .held ≡ held → Selected (selection most c) (now (list .entry)) (now (list .exit)) r) ⌝ }
+    ensures { λ r. ⌜ ((by-handle marks : List ℕ) (head : PageCache) (c : Cache) → Holds (memoryOf (now (slots .entry)) (now («by_key» .entry)) by-handle marks) head c → head .held ≡ held → Selected (selection most c) (now (list .entry)) (now (list .exit)) r) ⌝ }
 {
     let n = held as usize;
     let mut listed: u32 = 0;
@@ -53,7 +54,7 @@ pub fn check_spill(
     most: u64,
 ) -> Answered
     requires { ⌜ Readable (now slots) (now «by_key») (head .held) ⌝ }
-    ensures { λ r. ⌜ ((by-handle marks : List ℕ) (c : Cache) → Holds (joined (slots .entry) («by_key» .entry) by-handle marks) head c → Comes (step (spill most (length (now (list .entry)))) c) (now (list .entry)) (joined (slots .entry) («by_key» .entry) by-handle marks) (now (list .exit)) r) ⌝ }
+    ensures { λ r. ⌜ ((by-handle marks : List ℕ) (c : Cache) → Holds (memoryOf (now (slots .entry)) (now («by_key» .entry)) by-handle marks) head c → Comes (step (spill most (length (now (list .entry)))) c) (now (list .entry)) (memoryOf (now (slots .entry)) (now («by_key» .entry)) by-handle marks) (now (list .exit)) r) ⌝ }
 {
     if list.len() < head.held as usize {
         return Answered::plain(Answer::ShortList, head);
@@ -70,7 +71,7 @@ fn check_spill_listed(
     most: u64,
 ) -> Answered
     requires { ⌜ Listable (now slots) (now «by_key») (head .held) (now list) ⌝ }
-    ensures { λ r. ⌜ ((by-handle marks : List ℕ) (c : Cache) → Holds (joined (slots .entry) («by_key» .entry) by-handle marks) head c → Comes (onSpill most c) (now (list .entry)) (joined (slots .entry) («by_key» .entry) by-handle marks) (now (list .exit)) r) ⌝ }
+    ensures { λ r. ⌜ ((by-handle marks : List ℕ) (c : Cache) → Holds (memoryOf (now (slots .entry)) (now («by_key» .entry)) by-handle marks) head c → Comes (onSpill most c) (now (list .entry)) (memoryOf (now (slots .entry)) (now («by_key» .entry)) by-handle marks) (now (list .exit)) r) ⌝ }
 {
     if !needs_spill(slots, by_key, head) {
         return Answered::plain(Answer::NotNeeded, head);

@@ -3,7 +3,7 @@
 use mathlib.Core.Path.{_∙_}
 use native.Mathlib.Omega.{arith}
 use borrow.Author.Needs.{needs}
-use Rattle.moves.specs.Moves.{memoryOf}
+use Rattle.memory.specs.Memory.{memoryOf}
 use Rattle.eviction.proofs.Step.{says-took, says-full}
 use Rattle.eviction.proofs.Underway.{Underway, underway-start, underway-long, underway-done, underway-occupied, underway-place, underway-held, underway-sum, underway-took, underway-full-sum, underway-full}
 use Rattle.eviction.proofs.making_room.evict_to.Statement.{statement}

@@ -8,10 +8,11 @@ use borrow.Author.Tests.{not-true, not-false}
 use borrow.Author.Needs.{needs}
 use Rattle.pool.specs.Slots.{entries}
 use Rattle.model.specs.Cache.{Cache}
+use Rattle.memory.specs.Memory.{memoryOf}
 use Rattle.memory.specs.Holds.{Holds}
 use Rattle.memory.proofs.Standing.{holds-by-key}
 use Rattle.answer.proofs.Steps.{follows-told}
-use Rattle.moves.specs.Moves.{memoryOf, KeyAt}
+use Rattle.moves.specs.Moves.{KeyAt}
 use Rattle.moves.proofs.Removal.{slot-inside}
 use Rattle.lookups.proofs.Calls.{peek-absent, peek-seen, peek-touched}
 use Rattle.lookups.proofs.lookup.peek.Statement.{statement}

@@ -8,10 +8,11 @@ use borrow.Author.Needs.{needs}
 use Rattle.page.specs.Record.{allFlags}
 use Rattle.pool.specs.Slots.{entries}
 use Rattle.model.specs.Cache.{Cache}
+use Rattle.memory.specs.Memory.{memoryOf}
 use Rattle.memory.specs.Holds.{Holds}
 use Rattle.memory.proofs.Standing.{holds-by-key}
 use Rattle.answer.proofs.Steps.{follows-told}
-use Rattle.moves.specs.Moves.{memoryOf, KeyAt}
+use Rattle.moves.specs.Moves.{KeyAt}
 use Rattle.moves.proofs.Removal.{slot-inside}
 use Rattle.notices.proofs.Writing.{write-bad, write-absent, write-there}
 use Rattle.notices.proofs.record.write_record.Statement.{statement}

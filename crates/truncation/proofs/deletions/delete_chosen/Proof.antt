@@ -4,7 +4,7 @@ use Prim.Native.Nat.{_-_}
 use native.Mathlib.Omega.{arith}
 use borrow.Author.Needs.{needs}
 use borrow.Author.Tests.{not-true, not-false}
-use Rattle.moves.specs.Moves.{memoryOf}
+use Rattle.memory.specs.Memory.{memoryOf}
 use Rattle.truncation.proofs.Progress.{Progress, progress-start, progress-long, progress-count, progress-done, progress-place, progress-slot, progress-can-delete, progress-passed, progress-held, progress-deleted, progress-refused, says-deleted, says-refused}
 use Rattle.truncation.proofs.deletions.delete_chosen.Statement.{statement}
 use Rattle.truncation.proofs.deletions.delete_chosen.Tie as tie
