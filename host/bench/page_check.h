@@ -1,5 +1,5 @@
 /* The two checks of a b-tree page that host/bench/pages.c compares. Each writes two numbers: the first rule that fails, or 0, and
- * the offset in the page of the field that breaks it, 0 for the rules of sizes. The rules have the order of crate page_rules. */
+ * the offset in the page of the field that breaks it, 0 for the rules of sizes. The rules have the order of crate btree_check. */
 #ifndef PAGE_CHECK_H
 #define PAGE_CHECK_H
 #include <stddef.h>

@@ -12,7 +12,7 @@ use Rattle.memory.proofs.Once.{holds-memory}
 use Rattle.answer.specs.declared.answer.Answer.{Answer}
 use Rattle.answer.specs.declared.answer.Answer.the-variants.{Done, NotSound, BadRecord, ShortList, Absent, Locked, Dirty, Pinned, Full, KeyExists, PendingEvictions, OtherPage, HandleElsewhere, NoSlot, Empty, TooLarge, BadLengths, BadReplay, NotNeeded, NoneSelected}
 use Rattle.answer.specs.declared.answered.Answered.{Answered}
-use Rattle.answer.specs.Answer.{codeOf, valueOf, Comes}
+use Rattle.answer.specs.Answer.{codeOf, valueOf, MatchesOutcome}
 
 -- the answers that go with a value, by their codes
 abbrev answersOf : ℕ → List Answer
@@ -50,7 +50,7 @@ answer-once a b code value = sym (read-off a) ∙ ap (λ (n : ℕ). readOff n (v
 
 -- ── the same outcome ─────────────────────────────────────────────────────────
 module _ {o : Outcome} {list list′ list″ : List ℕ} {m m′ : Memory} {r s : Answered} (wide : Wide (m .marks)) (wide′ : Wide (m′ .marks))
-    (x : Comes o list m list′ r) (y : Comes o list m′ list″ s) where
+    (x : MatchesOutcome o list m list′ r) (y : MatchesOutcome o list m′ list″ s) where
   pub same-memory : m ≡ m′
   same-memory = holds-memory wide wide′ (x .follows .holds) (y .follows .holds) .0
 

@@ -26,7 +26,7 @@ use Rattle.model.proofs.KeptTests.{Passes}
 use Rattle.memory.specs.Memory.{Memory}
 use Rattle.memory.specs.Holds.{Holds}
 use Rattle.memory.proofs.OnceKept.{holds-held}
-use Rattle.answer.specs.Answer.{codeOf, valueOf, refusedAs, plainly, Follows, Wrote, Comes}
+use Rattle.answer.specs.Answer.{codeOf, valueOf, refusedAs, plainly, Follows, Wrote, MatchesOutcome}
 use Rattle.answer.specs.declared.answer.Answer.{Answer}
 use Rattle.answer.specs.declared.answered.Answered.{Answered}
 
@@ -78,15 +78,15 @@ module _ {r r′ : Answered} (same : r ≡ r′) {o : Outcome} {m : Memory} wher
   pub follows-told : Follows o m r′ → Follows o m r
   follows-told f = subst (λ (x : Answered). Follows o m x) (sym same) f
 
-  pub comes-told : {before after : List ℕ} → Comes o before m after r′ → Comes o before m after r
-  comes-told {before} {after} f = subst (λ (x : Answered). Comes o before m after x) (sym same) f
+  pub comes-told : {before after : List ℕ} → MatchesOutcome o before m after r′ → MatchesOutcome o before m after r
+  comes-told {before} {after} f = subst (λ (x : Answered). MatchesOutcome o before m after x) (sym same) f
 
 module _ {o o′ : Outcome} (same : o ≡ o′) {m : Memory} {r : Answered} where
   pub follows-as : Follows o′ m r → Follows o m r
   follows-as f = subst (λ (x : Outcome). Follows x m r) (sym same) f
 
-  pub comes-as : {before after : List ℕ} → Comes o′ before m after r → Comes o before m after r
-  comes-as {before} {after} f = subst (λ (x : Outcome). Comes x before m after r) (sym same) f
+  pub comes-as : {before after : List ℕ} → MatchesOutcome o′ before m after r → MatchesOutcome o before m after r
+  comes-as {before} {after} f = subst (λ (x : Outcome). MatchesOutcome x before m after r) (sym same) f
 
 -- ── the list ─────────────────────────────────────────────────────────────────
 pub wrote-none : (list : List ℕ) → Wrote [] list list
@@ -112,11 +112,11 @@ module _ (a : Answer) {m : Memory} {head : PageCache} {c : Cache} (H : Holds m h
   pub plain-follows : Follows (answer (codeOf a) (valueOf a) c) m (plainly a head)
   plain-follows = record { code = refl; value = refl; passed = refl; listed = refl; holds = H }
 
-  pub plain-comes : (list : List ℕ) → Comes (answer (codeOf a) (valueOf a) c) list m list (plainly a head)
+  pub plain-comes : (list : List ℕ) → MatchesOutcome (answer (codeOf a) (valueOf a) c) list m list (plainly a head)
   plain-comes list = record { follows = plain-follows; wrote = wrote-none list }
 
 -- an outcome that lists nothing leaves the list alone
-pub unlisted-comes : {o : Outcome} {m : Memory} {r : Answered} {list : List ℕ} → Follows o m r → o .listed ≡ [] → Comes o list m list r
+pub unlisted-comes : {o : Outcome} {m : Memory} {r : Answered} {list : List ℕ} → Follows o m r → o .listed ≡ [] → MatchesOutcome o list m list r
 unlisted-comes {list = list} f q = record { follows = f; wrote = rw q (wrote-none list) }
 
 -- one touch more, which is no part of the answer
@@ -124,7 +124,7 @@ module _ {o : Outcome} {m : Memory} {r : Answered} where
   pub touching-follows : Follows o m r → Follows (touching o) m r
   touching-follows f = record { code = f .code; value = f .value; passed = f .passed; listed = f .listed; holds = f .holds }
 
-  pub touching-comes : {before after : List ℕ} → Comes o before m after r → Comes (touching o) before m after r
+  pub touching-comes : {before after : List ℕ} → MatchesOutcome o before m after r → MatchesOutcome (touching o) before m after r
   touching-comes f = record { follows = touching-follows (f .follows); wrote = f .wrote }
 
 -- handles that were listed before

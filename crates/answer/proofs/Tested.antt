@@ -12,7 +12,7 @@ use Rattle.model.specs.Step.{act, step}
 use Rattle.model.specs.Tests.{Asks, asks, tooLarge, badRecord, shortList, handleElsewhere}
 use Rattle.memory.specs.Memory.{Memory}
 use Rattle.memory.specs.Holds.{Holds}
-use Rattle.answer.specs.Answer.{plainly, Comes}
+use Rattle.answer.specs.Answer.{plainly, MatchesOutcome}
 use Rattle.answer.specs.declared.answer.Answer.the-variants.{ShortList}
 use Rattle.answer.specs.declared.answered.Answered.{Answered}
 use Rattle.answer.proofs.Steps.{step-acts, step-short-list, list-short, list-long, comes-as, plain-comes}
@@ -23,13 +23,13 @@ listAlone places = record { capacity = none; state = none; places = some places;
 
 module _ (call : Call) {m : Memory} {head : PageCache} {c : Cache} (H : Holds m head c) {list : List ℕ}
     (asked : asks call ≡ listAlone (length list)) where
-  pub comes-short : length list < head .held → Comes (step call c) list m list (plainly ShortList head)
+  pub comes-short : length list < head .held → MatchesOutcome (step call c) list m list (plainly ShortList head)
   comes-short short =
       comes-as (step-short-list call (ap (λ (a : Asks). tooLarge (a .capacity) c) asked) (ap (λ (a : Asks). badRecord (a .state)) asked)
       (ap (λ (a : Asks). shortList (a .places) c) asked ∙ list-short H short)) (plain-comes ShortList H list)
 
-  pub comes-acts : head .held ≤ length list → {m′ : Memory} {list′ : List ℕ} {r : Answered} → Comes (act call c) list m′ list′ r
-      → Comes (step call c) list m′ list′ r
+  pub comes-acts : head .held ≤ length list → {m′ : Memory} {list′ : List ℕ} {r : Answered} → MatchesOutcome (act call c) list m′ list′ r
+      → MatchesOutcome (step call c) list m′ list′ r
   comes-acts long comes = comes-as (step-acts call (record {
     capacity = ap (λ (a : Asks). tooLarge (a .capacity) c) asked;
     state = ap (λ (a : Asks). badRecord (a .state)) asked;

@@ -84,11 +84,11 @@ pub record Wrote (handles before after : List ℕ) : Type 0 where
   pub list : after ≡ handles ++ drop (length handles) before
 
 -- both, for a call that is lent a list
-pub record Comes (o : Outcome) (before : List ℕ) (m : Memory) (after : List ℕ) (r : Answered) : Type 0 where
+pub record MatchesOutcome (o : Outcome) (before : List ℕ) (m : Memory) (after : List ℕ) (r : Answered) : Type 0 where
   pub follows : Follows o m r
   pub wrote : Wrote (o .listed) before after
 
 -- what the calls below the soundness test stand on: sound memory, and a list as long as held
-pub record Ready (m : Memory) (head : PageCache) (list : List ℕ) : Type 0 where
+pub record ReadyToCall (m : Memory) (head : PageCache) (list : List ℕ) : Type 0 where
   pub sound : Sound m head
   pub long : head .held ≤ length list

@@ -10,8 +10,8 @@ use lib.ListN.{length, getD, drop}
 use borrow.Author.Tests.{le-ltb, ltb-false}
 use Rattle.page.specs.declared.cache.PageCache.{PageCache}
 use Rattle.free_marks.specs.Marks.{Wide}
-use Rattle.pool.specs.Tells.{Tells}
-use Rattle.pool.proofs.Tells.{fails, passes, tells-yes, tells-as}
+use Rattle.pool.specs.Decides.{Decides}
+use Rattle.pool.proofs.Decides.{fails, passes, decides-yes, decides-as}
 use Rattle.memory.specs.Memory.{Memory}
 use Rattle.memory.specs.Holds.{Sound}
 use Rattle.answer.specs.Answer.{plainly}
@@ -86,11 +86,11 @@ inside n told =
     (ltb-false n 1 (each .0), ltb-false 16 n (each .1))
 
 module _ {operation : ℕ} {m : Memory} {head : PageCache} where
-  pub ready-else : (1 ≤ operation → operation ≤ 16 → ⊥) → Tells true (Runnable operation m head)
-  ready-else other = tells-yes (record { sound = λ least most. absurd (other least most) })
+  pub ready-else : (1 ≤ operation → operation ≤ 16 → ⊥) → Decides true (Runnable operation m head)
+  ready-else other = decides-yes (record { sound = λ least most. absurd (other least most) })
 
-  pub ready-call : (1 ≤ operation) × (operation ≤ 16) → {sound : Bool} → Tells sound (Sound m head) → Tells sound (Runnable operation m head)
-  ready-call within told = tells-as told (λ s. record { sound = λ _ _. s }) (λ w. w .sound (within .0) (within .1))
+  pub ready-call : (1 ≤ operation) × (operation ≤ 16) → {sound : Bool} → Decides sound (Sound m head) → Decides sound (Runnable operation m head)
+  ready-call within told = decides-as told (λ s. record { sound = λ _ _. s }) (λ w. w .sound (within .0) (within .1))
 
 -- ── the contract ─────────────────────────────────────────────────────────────
 module _ {bytes : List ℕ} {before : State} {head : PageCache} {after : State} {r : Answered} where
@@ -103,7 +103,7 @@ module _ {bytes : List ℕ} {before : State} {head : PageCache} {after : State} 
   applied-bad is same told = applied-as Bad is (record { state = same; answer = told })
 
   module _ {asked : Record} (is : decoded bytes ≡ Good asked) {ready : Bool}
-      (test : Tells ready (Runnable (asked .operation) (before .memory) head)) where
+      (test : Decides ready (Runnable (asked .operation) (before .memory) head)) where
     pub applied-unsound : not ready ≡ true → Typed (before .memory) head → after ≡ before → r ≡ plainly NotSound head
         → Applied bytes before head after r
     applied-unsound failed typed same told = applied-as (Good asked) is (go (requestOf asked (length (before .list))) refl)
@@ -119,7 +119,7 @@ module _ {bytes : List ℕ} {before : State} {head : PageCache} {after : State} 
         go (call x) q = record {
           typed = typed;
           wide = subst (λ (s : State). Wide (s .memory .marks)) (sym same) (typed .marks);
-          does = refuses (λ s. fails test failed (record { sound = λ _ _. s })) same told;
+          effect = refuses (λ s. fails test failed (record { sound = λ _ _. s })) same told;
         }
 
     pub applied-ran : not ready ≡ false → Typed (before .memory) head → Wide (after .memory .marks) → Ran asked before head after r → Applied bytes before head after r
@@ -132,4 +132,4 @@ module _ {bytes : List ℕ} {before : State} {head : PageCache} {after : State} 
             let one : IsCall (requestOf asked (length (before .list))) = subst IsCall (sym q) tt in
             let sound : Sound (before .memory) head =
             passes test passed .sound (call-least asked (length (before .list)) one) (call-most asked (length (before .list)) one) in
-            record { typed = typed; wide = wide; does = acts sound runs }
+            record { typed = typed; wide = wide; effect = acts sound runs }

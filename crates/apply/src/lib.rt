@@ -12,7 +12,7 @@ use page::PageCache;
 use replay_record::Decoded;
 use replay_record::decode;
 use soundness::is_sound;
-ghost use Rattle.pool.specs.Tells.{Tells};
+ghost use Rattle.pool.specs.Decides.{Decides};
 ghost use Rattle.memory.specs.Memory.{memories};
 ghost use Rattle.contract.specs.Called.{lent};
 ghost use Rattle.dispatch.specs.Runs.{Runnable};
@@ -49,7 +49,7 @@ fn is_ready(
     head: PageCache,
     operation: u8,
 ) -> bool
-    ensures { λ r. let m = memories slots «by_key» «by_handle» marks in ⌜ Tells r (Runnable operation (m .entry) head) ⌝ }
+    ensures { λ r. let m = memories slots «by_key» «by_handle» marks in ⌜ Decides r (Runnable operation (m .entry) head) ⌝ }
 {
     if (operation < 1) | (operation > 16) {
         return true;

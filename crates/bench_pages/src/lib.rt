@@ -1,10 +1,10 @@
 // For benchmarks: the check of a page for programs in C, with its answer as numbers.
 //
 // `page_bench_check` asks nothing of what it is lent: an answer of another length than 2 numbers is answered with 1, and then nothing
-// is written. Its contract says nothing: what a check says is stated in crate `page_rules`.
-use page_rules::Checked;
-use page_rules::Fault;
-use page_rules::check;
+// is written. Its contract says nothing: what a check says is stated in crate `btree_check`.
+use btree_check::Checked;
+use btree_check::Fault;
+use btree_check::check;
 ghost use mathlib.Core.Path.{_≡_};
 ghost use lib.ListN.{length};
 

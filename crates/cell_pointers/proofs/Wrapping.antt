@@ -2,7 +2,7 @@
 use mathlib.Core.Path.{_≡_}
 use Prim.Native.Nat.{ℕ, _+_, _-_, _%_, _^_, _≤_, _<_}
 use native.Mathlib.Omega.{arith}
-use Rattle.page_format.specs.Rules.{Inside}
+use Rattle.btree_format.specs.Rules.{Inside}
 
 module _ {difference start end pointer p : ℕ} (wraps : (difference + start) % 2 ^ 64 ≡ pointer) (is : pointer ≡ p) where
   pub wraps-inside : end < 2 ^ 64 → difference < end - start → Inside start end p

@@ -1,11 +1,11 @@
 // The cell pointers of a b-tree page ("Database File Format", 1.6; document 02, item 9).
-use page_format::Place;
-use page_format::half_at;
+use btree_format::Place;
+use btree_format::half_at;
 use std::num::wrapping_sub_usize;
 ghost use Prim.Native.Nat.{ℕ, _+_, _*_, _≤_};
 ghost use lib.ListN.{length};
-ghost use Rattle.page_format.specs.Fields.{half};
-ghost use Rattle.page_format.specs.Rules.{Finds, Inside};
+ghost use Rattle.btree_format.specs.Fields.{half};
+ghost use Rattle.btree_format.specs.Rules.{Finds, Inside};
 
 // The index of the first of `count` pointers, from place `array` on, that doesn't point from `start` on to below `end`.
 pub fn first_outside(image: &[u8], array: usize, count: usize, start: usize, end: usize) -> Place

@@ -15,7 +15,7 @@ use Rattle.memory.specs.Holds.{Holds}
 use Rattle.memory.proofs.Reheaded.{reheaded}
 use Rattle.memory.specs.Walk.{walk}
 use Rattle.memory.proofs.Walks.{walk-by-key, walk-fits}
-use Rattle.answer.specs.Answer.{Wrote, Comes}
+use Rattle.answer.specs.Answer.{Wrote, MatchesOutcome}
 use Rattle.answer.specs.declared.answer.Answer.the-variants as answers
 use Rattle.answer.proofs.Steps.{plain-follows, listing-follows, comes-as}
 use Rattle.soundness.proofs.Joining.{holds-agreeing}
@@ -65,7 +65,7 @@ module _ {m : Memory} {head : PageCache} {c : Cache} (H : Holds m head c) where
         })
 
     pub clear-emptied : {list list′ : List ℕ} → Wrote (handlesOf (walk (m .slots) (m .by-key) (head .held))) list list′
-        → Comes (emptied c) list m′ list′ (record { answer = answers.Done 0; passed = 0; listed = head .held; head = headSwitched (head .spill) new })
+        → MatchesOutcome (emptied c) list m′ list′ (record { answer = answers.Done 0; passed = 0; listed = head .held; head = headSwitched (head .spill) new })
     clear-emptied {list} {list′} wrote =
         let handles : List ℕ = handlesOf (walk (m .slots) (m .by-key) (head .held)) in
         comes-as (ap {B = Outcome} (λ (row : Row). listing (handlesOf row) (answer 0 0 (withEstimate 0 (withRow [] c)))) (walk-by-key H)) (record {

@@ -12,7 +12,7 @@ use Rattle.memory.specs.Walk.{walk}
 use Rattle.memory.proofs.Walks.{walkAt, walk-more}
 use Rattle.answer.specs.Answer.{Wrote}
 use Rattle.answer.proofs.Steps.{wrote-none, wrote-next}
-use Rattle.clearing.specs.Clear.{handlesOf, Listable}
+use Rattle.clearing.specs.Clear.{handlesOf, CanListAll}
 
 -- the list has the handles of the first i pages of the walk, and other places keep their values
 pub record Listing (slots by-key list : List ℕ) (n : ℕ) (list′ : List ℕ) (i : ℕ) : Type 0 where
@@ -25,7 +25,7 @@ listing-start {list = list} = record { within = omega arith; wrote = wrote-none 
 pub handles-long : (slots by-key : List ℕ) (i : ℕ) → i ≤ length by-key → length (handlesOf (walk slots by-key i)) ≡ i
 handles-long slots by-key i h = length-map (walk slots by-key i) _ ∙ length-map (take i by-key) _ ∙ length-take-le i by-key h
 
-module _ {slots by-key list : List ℕ} {n : ℕ} {list′ : List ℕ} {i : ℕ} (can : Listable slots by-key list n) (g : Listing slots by-key list n list′ i) where
+module _ {slots by-key list : List ℕ} {n : ℕ} {list′ : List ℕ} {i : ℕ} (can : CanListAll slots by-key list n) (g : Listing slots by-key list n list′ i) where
   counted : length (handlesOf (walk slots by-key i)) ≡ i
   counted = handles-long slots by-key i (omega (arith, g .within, can .index .fits))
 

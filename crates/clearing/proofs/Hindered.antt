@@ -11,9 +11,9 @@ use Rattle.page.specs.declared.cache.PageCache.{PageCache}
 use Rattle.page.specs.declared.entry.PageCacheEntry.{PageCacheEntry}
 use Rattle.page.specs.declared.names.PageCacheKey.{PageCacheKey}
 use Rattle.pool.specs.Slots.{blank, entries}
-use Rattle.order.specs.Index.{Index}
-use Rattle.order.specs.Names.{names}
-use Rattle.order.specs.declared.search.By.the-variants.{Key}
+use Rattle.sorted_index.specs.Index.{Index}
+use Rattle.sorted_index.specs.Names.{names}
+use Rattle.sorted_index.specs.declared.search.By.the-variants.{Key}
 use Rattle.model.specs.Cache.{Cache}
 use Rattle.model.specs.Call.{Outcome, answer}
 use Rattle.model.specs.Row.{Page, Row, byKey, those}
@@ -22,7 +22,7 @@ use Rattle.memory.specs.Memory.{Memory}
 use Rattle.memory.specs.Holds.{Holds}
 use Rattle.memory.specs.Walk.{walk}
 use Rattle.memory.proofs.Walks.{walkAt, walkFrom, walk-by-key, walk-next, walked-none, walked-past, walked-split, those-one}
-use Rattle.answer.specs.Answer.{plainly, Comes}
+use Rattle.answer.specs.Answer.{plainly, MatchesOutcome}
 use Rattle.answer.specs.declared.answer.Answer.the-variants as answers
 use Rattle.answer.proofs.Steps.{plain-comes, comes-as}
 use Rattle.clearing.specs.Clear.{hindering, First, FirstIs}
@@ -93,7 +93,7 @@ module _ (dirty-too : Bool) {m : Memory} {head : PageCache} {c : Cache} (H : Hol
   walks-index = by-hindrance dirty-too c ∙ ap {B = Outcome} (λ (row : Row). clearUnless (hindering dirty-too row) c) (walk-by-key H)
 
   pub clear-dirty : (key : PageCacheKey) {list : List ℕ} → First stand (key .0)
-      → Comes (onClear dirty-too c) list m list (plainly (answers.Dirty key) head)
+      → MatchesOutcome (onClear dirty-too c) list m list (plainly (answers.Dirty key) head)
   clear-dirty key {list} first =
       comes-as (walks-index ∙ ap {B = Outcome} (λ (ps : List Page). clearUnless ps c) (first .parts) ∙ ap {B = Outcome} (λ (k : ℕ). answer 6 k c) (sym (first .named)))
       (plain-comes (answers.Dirty key) H list)

@@ -6,9 +6,9 @@ use Prim.Native.Nat.{ℕ, _≤_}
 use lib.ListN.{length}
 use Rattle.page.specs.Record.{dirty}
 use Rattle.pool.specs.Slots.{entries}
-use Rattle.order.specs.Index.{Index}
-use Rattle.order.specs.Names.{names}
-use Rattle.order.specs.declared.search.By.the-variants.{Key}
+use Rattle.sorted_index.specs.Index.{Index}
+use Rattle.sorted_index.specs.Names.{names}
+use Rattle.sorted_index.specs.declared.search.By.the-variants.{Key}
 use Rattle.model.specs.Row.{Page, Row, those}
 use Rattle.clearing.specs.declared.clearing.Hindrance.{Hindrance}
 use Rattle.clearing.specs.declared.clearing.Hindrance.the-variants.{Nothing, Dirty}
@@ -34,6 +34,6 @@ FirstIs pages Nothing = pages ≡ []
 FirstIs pages (Dirty key) = First pages (key .0)
 
 -- an index of n slots, and a list with a place for each
-pub record Listable (slots by-key list : List ℕ) (n : ℕ) : Type 0 where
+pub record CanListAll (slots by-key list : List ℕ) (n : ℕ) : Type 0 where
   pub index : Index (names Key (entries slots)) by-key n
   pub long : n ≤ length list

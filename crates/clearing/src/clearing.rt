@@ -8,9 +8,9 @@ use page::Slot;
 ghost use mathlib.Core.Bool.{false};
 ghost use lib.ListN.{length};
 ghost use Rattle.pool.specs.Slots.{entries};
-ghost use Rattle.order.specs.Index.{Index};
-ghost use Rattle.order.specs.Names.{names};
-ghost use Rattle.order.specs.declared.search.By.the-variants.{Key};
+ghost use Rattle.sorted_index.specs.Index.{Index};
+ghost use Rattle.sorted_index.specs.Names.{names};
+ghost use Rattle.sorted_index.specs.declared.search.By.the-variants.{Key};
 ghost use Rattle.model.specs.Cache.{Cache};
 ghost use Rattle.model.specs.Call as call;
 ghost use Rattle.model.specs.Rules.{emptied};
@@ -18,8 +18,8 @@ ghost use Rattle.model.specs.Step.{step};
 ghost use Rattle.memory.specs.Memory.{memory, memories};
 ghost use Rattle.memory.specs.Holds.{Holds, Sound};
 ghost use Rattle.memory.specs.Walk.{walk};
-ghost use Rattle.answer.specs.Answer.{Ready, Wrote, Comes};
-ghost use Rattle.clearing.specs.Clear.{handlesOf, hindering, FirstIs, Listable};
+ghost use Rattle.answer.specs.Answer.{ReadyToCall, Wrote, MatchesOutcome};
+ghost use Rattle.clearing.specs.Clear.{handlesOf, hindering, FirstIs, CanListAll};
 
 // What keeps the pages from being removed.
 enum Hindrance {
@@ -40,7 +40,7 @@ pub fn clear(
     dirty_too: bool,
 ) -> Answered
     requires { ⌜ Sound (memory slots «by_key» «by_handle» marks) head ⌝ }
-    ensures { λ r. let m = memories slots «by_key» «by_handle» marks in ⌜ ((c : Cache) → Holds (m .entry) head c → Comes (step (call.clear «dirty_too» (length (now (list .entry)))) c) (now (list .entry)) (m .exit) (now (list .exit)) r) ⌝ }
+    ensures { λ r. let m = memories slots «by_key» «by_handle» marks in ⌜ ((c : Cache) → Holds (m .entry) head c → MatchesOutcome (step (call.clear «dirty_too» (length (now (list .entry)))) c) (now (list .entry)) (m .exit) (now (list .exit)) r) ⌝ }
 {
     if list.len() < head.held as usize {
         return Answered::plain(Answer::ShortList, head);
@@ -88,8 +88,8 @@ fn empty(
     list: &mut [u32],
     head: PageCache,
 ) -> Answered
-    requires { ⌜ Ready (memory slots «by_key» «by_handle» marks) head (now list) ⌝ }
-    ensures { λ r. let m = memories slots «by_key» «by_handle» marks in ⌜ ((c : Cache) → Holds (m .entry) head c → Comes (emptied c) (now (list .entry)) (m .exit) (now (list .exit)) r) ⌝ }
+    requires { ⌜ ReadyToCall (memory slots «by_key» «by_handle» marks) head (now list) ⌝ }
+    ensures { λ r. let m = memories slots «by_key» «by_handle» marks in ⌜ ((c : Cache) → Holds (m .entry) head c → MatchesOutcome (emptied c) (now (list .entry)) (m .exit) (now (list .exit)) r) ⌝ }
 {
     list_handles(list, by_key, slots, head.held as usize);
     // Sound memory has the lengths and the capacity that creation asks for, so that it is never refused.
@@ -109,7 +109,7 @@ fn empty(
 
 // Writes the handles of the n pages of the index into the first places of the list.
 fn list_handles(list: &mut [u32], by_key: &[u32], slots: &[u64], n: usize)
-    requires { ⌜ Listable (now slots) (now «by_key») (now list) n ⌝ }
+    requires { ⌜ CanListAll (now slots) (now «by_key») (now list) n ⌝ }
     ensures { λ _. ⌜ Wrote (handlesOf (walk (now (slots .entry)) (now («by_key» .entry)) n)) (now (list .entry)) (now (list .exit)) ⌝ }
 {
     let mut i = 0;

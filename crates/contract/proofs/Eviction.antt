@@ -29,10 +29,10 @@ use Rattle.model.proofs.Evicts.{sweep-evicts}
 use Rattle.model.proofs.Exact.{step-counts}
 use Rattle.model.proofs.KeptRooms.{kept-limited, failed-room-unchanged}
 use Rattle.memory.specs.Holds.{Holds}
-use Rattle.answer.specs.Answer.{Comes, codeOf, valueOf}
+use Rattle.answer.specs.Answer.{MatchesOutcome, codeOf, valueOf}
 use Rattle.answer.proofs.Steps.{step-acts, step-short-list, comes-as}
 use Rattle.answer.specs.declared.answered.Answered.{Answered}
-use Rattle.contract.specs.Called.{State, Does, refuses, acts, Called}
+use Rattle.contract.specs.Called.{State, CallEffect, refuses, acts, Called}
 use Rattle.contract.specs.Eviction.{AnswersFull, TakesOne, EvictsOne, full, takes, OnlyCode, EvictionCall, unsound, short, empty, evicts, EvictionsOf}
 use Rattle.contract.proofs.Refused.{called-kept, acted, unaltered}
 
@@ -47,7 +47,7 @@ step-tested places c long =
 module _ {places : ℕ} {before after : State} {head : PageCache} {r : Answered} (x : Called (evict-one places) before head after r) (c : Cache)
     (h : Holds (before .memory) head c) where
   -- the call comes to an outcome that is the model's step
-  comes : (o : Outcome) → step (evict-one places) c ≡ o → Comes o (before .list) (after .memory) (after .list) r
+  comes : (o : Outcome) → step (evict-one places) c ≡ o → MatchesOutcome o (before .list) (after .memory) (after .list) r
   comes o q = comes-as (sym q) (acted x c h)
 
   -- an answer that leaves the cache
@@ -127,7 +127,7 @@ module _ {places : ℕ} {before after : State} {head : PageCache} {r : Answered}
 -- ── the whole call ───────────────────────────────────────────────────────────
 pub public-eviction-whole : {places : ℕ} {before after : State} {head : PageCache} {r : Answered}
     → Called (evict-one places) before head after r → EvictionCall places before head after r
-public-eviction-whole {places} {before} {after} {head} {r} x = go (x .does)
+public-eviction-whole {places} {before} {after} {head} {r} x = go (x .effect)
   where
     held : (c : Cache) → Holds (before .memory) head c → heldIn c ≤ places → (n : ℕ) → heldIn c ≡ n → EvictionCall places before head after r
     held c h long zero q = empty c h q (only-code x c h 14 (step-tested places c long ∙ evict-none c q))
@@ -139,7 +139,7 @@ public-eviction-whole {places} {before} {after} {head} {r} x = go (x .does)
     listed c h true q = short c h (ltb-true places (heldIn c) q) (only-code x c h 3 (step-short-list (evict-one places) refl refl q))
     listed c h false q = held c h (ltb-false places (heldIn c) q) (heldIn c) refl
 
-    go : Does (evict-one places) before head after r → EvictionCall places before head after r
+    go : CallEffect (evict-one places) before head after r → EvictionCall places before head after r
     go (refuses n same q) = unsound n
         (record {
           code = ap (λ (s : Answered). codeOf (s .answer)) q;
@@ -155,7 +155,7 @@ pub called-evictions : {call : Call} {before after : State} {head : PageCache} {
     → (c : Cache) → Holds (before .memory) head c → EvictionsOf (effectOf call c .evicting) before after r
 called-evictions {call} {before} {after} {head} {r} x c h = go (effectOf call c .evicting) (step-counts call c (called-kept x c h) .evictions)
   where
-    came : Comes (step call c) (before .list) (after .memory) (after .list) r
+    came : MatchesOutcome (step call c) (before .list) (after .memory) (after .list) r
     came = acted x c h
 
     go : (y : Option Evicting) → uses.EvictionsOf y (step call c) → EvictionsOf y before after r

@@ -9,7 +9,7 @@ use Rattle.model.specs.Call.{Call}
 use Rattle.model.specs.Step.{step, run}
 use Rattle.memory.specs.Memory.{Memory}
 use Rattle.memory.specs.Holds.{Holds, Sound}
-use Rattle.contract.specs.Called.{Does, refuses, acts, History, created, called}
+use Rattle.contract.specs.Called.{CallEffect, refuses, acts, History, created, called}
 
 -- one call more
 run-snoc : (calls : List Call) (call : Call) (c : Cache) → run (calls ++ call ∷ []) c ≡ step call (run calls c) .cache
@@ -21,9 +21,9 @@ pub history-holds : {size capacity : ℕ} {calls : List Call} {m : Memory} {head
     → History size capacity calls m head → Holds m head (run calls (fresh size capacity))
 unfolding run
 history-holds (created h) = h
-history-holds {size} {capacity} (called {calls} {m} {m′} {head} {list} {list′} {r} call past x) = go (history-holds past) (x .does)
+history-holds {size} {capacity} (called {calls} {m} {m′} {head} {list} {list′} {r} call past x) = go (history-holds past) (x .effect)
   where
-    go : Holds m head (run calls (fresh size capacity)) → Does call (record { memory = m; list = list }) head (record { memory = m′; list = list′ }) r
+    go : Holds m head (run calls (fresh size capacity)) → CallEffect call (record { memory = m; list = list }) head (record { memory = m′; list = list′ }) r
         → Holds m′ (r .head) (run (calls ++ call ∷ []) (fresh size capacity))
     go h (refuses n _ _) = absurd (n (record { cache = run calls (fresh size capacity); holds = h }))
     go h (acts _ f) = rw (run-snoc calls call (fresh size capacity)) (f (run calls (fresh size capacity)) h .follows .holds)

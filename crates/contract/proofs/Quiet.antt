@@ -14,7 +14,7 @@ use Rattle.model.specs.Step.{act, tested, step}
 use Rattle.model.specs.Tests.{refusal}
 use Rattle.model.proofs.KeptCases.{either}
 use Rattle.memory.specs.Memory.{Memory}
-use Rattle.answer.specs.Answer.{Follows, Comes}
+use Rattle.answer.specs.Answer.{Follows, MatchesOutcome}
 use Rattle.answer.specs.declared.answered.Answered.{Answered}
 use Rattle.answer.proofs.Steps.{unlisted-comes}
 
@@ -32,7 +32,7 @@ quiet-step {call} q c = go (refusal call c)
     go (suc n) = refl
 
 pub quiet-comes : {call : Call} → Quiet call → (c : Cache) {m : Memory} {list : List ℕ} {r : Answered} → Follows (step call c) m r
-    → Comes (step call c) list m list r
+    → MatchesOutcome (step call c) list m list r
 quiet-comes q c f = unlisted-comes f (quiet-step q c)
 
 pub quiet-peek : (key : ℕ) (asked : Bool) → Quiet (peek key asked)

@@ -9,7 +9,7 @@ use lib.ListN.{length, drop}
 use Rattle.page.specs.declared.cache.PageCache.{PageCache}
 use Rattle.model.specs.Cache.{Cache}
 use Rattle.model.specs.Call.{Call, Outcome, answer}
-use Rattle.model.specs.Limits.{Kept}
+use Rattle.model.specs.Limits.{CacheInvariant}
 use Rattle.model.specs.Step.{step}
 use Rattle.model.specs.Tests.{refusal}
 use Rattle.model.proofs.Kept.{refused-unchanged, unlisted-unchanged, high-code-unchanged}
@@ -18,21 +18,21 @@ use Rattle.model.proofs.KeptLeaves.{Refusal}
 use Rattle.memory.specs.Holds.{Holds}
 use Rattle.memory.proofs.Once.{holds-memory}
 use Rattle.memory.proofs.OnceKept.{holds-kept}
-use Rattle.answer.specs.Answer.{Comes, codeOf}
+use Rattle.answer.specs.Answer.{MatchesOutcome, codeOf}
 use Rattle.answer.specs.declared.answered.Answered.{Answered}
-use Rattle.contract.specs.Called.{State, Does, refuses, acts, Called, Unaltered}
+use Rattle.contract.specs.Called.{State, CallEffect, refuses, acts, Called, Unaltered}
 
 module _ {call : Call} {before after : State} {head : PageCache} {r : Answered} (x : Called call before head after r) (c : Cache)
     (h : Holds (before .memory) head c) where
   -- what the memory holds is within the model's limits
-  pub called-kept : Kept c
+  pub called-kept : CacheInvariant c
   called-kept = holds-kept (x .typed .slots) h (x .typed .estimate)
 
   -- memory that holds a cache is sound, so the call acts
-  pub acted : Comes (step call c) (before .list) (after .memory) (after .list) r
-  acted = go (x .does)
+  pub acted : MatchesOutcome (step call c) (before .list) (after .memory) (after .list) r
+  acted = go (x .effect)
     where
-      go : Does call before head after r → Comes (step call c) (before .list) (after .memory) (after .list) r
+      go : CallEffect call before head after r → MatchesOutcome (step call c) (before .list) (after .memory) (after .list) r
       go (refuses n _ _) = absurd (n (record { cache = c; holds = h }))
       go (acts _ f) = f c h
 

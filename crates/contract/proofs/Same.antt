@@ -6,14 +6,14 @@ use Rattle.model.specs.Cache.{Cache}
 use Rattle.model.specs.Call.{Call}
 use Rattle.answer.specs.declared.answered.Answered.{Answered}
 use Rattle.answer.proofs.Once.{same-memory, same-list, same-answer}
-use Rattle.contract.specs.Called.{State, Does, refuses, acts, Called}
+use Rattle.contract.specs.Called.{State, CallEffect, refuses, acts, Called}
 
 -- for every call, from every memory
 pub called-same : {call : Call} {before a b : State} {head : PageCache} {r s : Answered} → Called call before head a r → Called call before head b s
     → (a ≡ b) × (r ≡ s)
-called-same {call} {before} {a} {b} {head} {r} {s} x y = go (x .does) (y .does)
+called-same {call} {before} {a} {b} {head} {r} {s} x y = go (x .effect) (y .effect)
   where
-    go : Does call before head a r → Does call before head b s → (a ≡ b) × (r ≡ s)
+    go : CallEffect call before head a r → CallEffect call before head b s → (a ≡ b) × (r ≡ s)
     go (refuses _ m p) (refuses _ n q) = (m ∙ sym n, p ∙ sym q)
     go (refuses n _ _) (acts h _) = absurd (n h)
     go (acts h _) (refuses n _ _) = absurd (n h)

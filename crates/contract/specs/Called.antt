@@ -9,7 +9,7 @@ use Rattle.model.specs.Call.{Call}
 use Rattle.model.specs.Step.{step}
 use Rattle.memory.specs.Memory.{Memory}
 use Rattle.memory.specs.Holds.{Holds, Sound}
-use Rattle.answer.specs.Answer.{Comes, plainly}
+use Rattle.answer.specs.Answer.{MatchesOutcome, plainly}
 use Rattle.answer.specs.declared.answer.Answer.the-variants.{NotSound}
 use Rattle.answer.specs.declared.answered.Answered.{Answered}
 
@@ -23,11 +23,11 @@ lent m list = record { memory = m; list = list }
 
 -- either the memory is not sound: 1, and nothing is altered; or the call comes to the model's step from the cache that the
 -- memory holds: the answer, what stands in the list, and the memory after it
-pub data Does (call : Call) (before : State) (head : PageCache) (after : State) (r : Answered) : Type 0 where
-  refuses : (Sound (before .memory) head → ⊥) → after ≡ before → r ≡ plainly NotSound head → Does call before head after r
+pub data CallEffect (call : Call) (before : State) (head : PageCache) (after : State) (r : Answered) : Type 0 where
+  refuses : (Sound (before .memory) head → ⊥) → after ≡ before → r ≡ plainly NotSound head → CallEffect call before head after r
   acts : Sound (before .memory) head
-      → ((c : Cache) → Holds (before .memory) head c → Comes (step call c) (before .list) (after .memory) (after .list) r)
-      → Does call before head after r
+      → ((c : Cache) → Holds (before .memory) head c → MatchesOutcome (step call c) (before .list) (after .memory) (after .list) r)
+      → CallEffect call before head after r
 
 -- what is lent is in range for its types: slots and marks are numbers of 64 bits, and the estimate is one of 32
 pub record Typed (m : Memory) (head : PageCache) : Type 0 where
@@ -40,7 +40,7 @@ pub record Called (call : Call) (before : State) (head : PageCache) (after : Sta
   pub typed : Typed (before .memory) head
   -- the marks stay numbers of 64 bits
   pub wide : Wide (after .memory .marks)
-  pub does : Does call before head after r
+  pub effect : CallEffect call before head after r
 
 -- nothing is altered: neither memory nor list, and the head comes back as it was
 pub record Unaltered (before : State) (head₀ : PageCache) (after : State) (r : Answered) : Type 0 where

@@ -20,8 +20,8 @@ use Rattle.pool.specs.Slots.{blank, decode, entries}
 use Rattle.ring_links.proofs.Columns.{next-at, prev-at}
 use Rattle.free_marks.proofs.Digits.{digit, digit-of-none, not-digit}
 use Rattle.free_marks.proofs.Marking.{shifted}
-use Rattle.order.specs.Listed.{Listed}
-use Rattle.order.proofs.Ascending.{index-places}
+use Rattle.sorted_index.specs.Listed.{Listed}
+use Rattle.sorted_index.proofs.Ascending.{index-places}
 use Rattle.model.specs.Cache.{fresh}
 use Rattle.memory.specs.Memory.{Memory}
 use Rattle.memory.specs.Holds.{Holds}
@@ -202,7 +202,7 @@ module _ (size capacity : ℕ) (some : 1 ≤ size) (most : size ≤ maxSlots) (w
     handles = none-listed _;
     marked = record { inside = bit-inside size; beyond = bit-beyond size };
     headed = record { held = refl; hand = refl; capacity = refl; spill = refl; estimate = refl };
-    limits = record { some = some; most = most; capacity = within; fine = tt };
+    limits = record { some = some; most = most; capacity = within; good = tt };
   }
 
 -- ── the answers ──────────────────────────────────────────────────────────────

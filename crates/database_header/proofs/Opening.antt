@@ -9,10 +9,10 @@ use lib.ListN.{length, take}
 use borrow.Author.Tests.{leb-true, leb-false, not-true, not-false}
 use Rattle.page_size.specs.PageSize.{isPageSize}
 use Rattle.page_size.proofs.Bounds.{largest}
-use Rattle.page_format.specs.Rules.{Finds, LikeMagic}
-use Rattle.page_format.specs.declared.answer.Place.{Place}
-use Rattle.page_format.specs.declared.answer.Place.the-variants.{Nowhere, At}
-use Rattle.database_header.specs.Header.{pageSize, reserved, databaseOf, page-size, usable-size, rules, Holds, Obeys, Refuses, Describes, Opens}
+use Rattle.btree_format.specs.Rules.{Finds, LikeMagic}
+use Rattle.btree_format.specs.declared.answer.Place.{Place}
+use Rattle.btree_format.specs.declared.answer.Place.the-variants.{Nowhere, At}
+use Rattle.database_header.specs.Header.{pageSize, reserved, databaseOf, page-size, usable-size, rules, HeaderRuleHolds, Obeys, Refuses, Describes, Opens}
 use Rattle.database_header.specs.declared.header.Database.{Database}
 use Rattle.database_header.specs.declared.header.Fault.the-variants.{Magic, PageSize}
 use Rattle.database_header.specs.declared.header.Opened.{Opened}
@@ -33,15 +33,15 @@ module _ (b : List ℕ) {n : ℕ} {told : Bool} (read : n ≡ pageSize b) (tells
     fails = λ good. true≢false (sym good ∙ ap isPageSize (sym read) ∙ sym tells ∙ not-true told bad);
   }
 
-  pub a-size : not told ≡ false → Holds b page-size
+  pub a-size : not told ≡ false → HeaderRuleHolds b page-size
   a-size good = ap isPageSize (sym read) ∙ sym tells ∙ not-false told good
 
 -- and the answer whether enough of its bytes are left
 module _ (b : List ℕ) {n : ℕ} {told : Bool} (read : n ≡ pageSize b) (tells : told ≡ leb (480 + reserved b) n) where
-  pub too-few : not told ≡ true → Holds b usable-size → ⊥
+  pub too-few : not told ≡ true → HeaderRuleHolds b usable-size → ⊥
   too-few bad enough = omega (arith, leb-false (480 + reserved b) n (sym tells ∙ not-true told bad), read, enough)
 
-  pub enough : not told ≡ false → Holds b usable-size
+  pub enough : not told ≡ false → HeaderRuleHolds b usable-size
   enough good = omega (arith, leb-true (480 + reserved b) n (sym tells ∙ not-false told good), read)
 
 pub fields : (b : List ℕ) {n : ℕ} → n ≡ pageSize b

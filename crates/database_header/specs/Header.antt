@@ -6,8 +6,8 @@ use Prim.Native.Nat.{ℕ, _-_, _≤_, _<_}
 use lib.Dec.{eqb}
 use lib.ListN.{getD, length, take}
 use Rattle.page_size.specs.PageSize.{isPageSize}
-use Rattle.page_format.specs.Fields.{half}
-use Rattle.page_format.specs.Rules.{All, First, LikeMagic}
+use Rattle.btree_format.specs.Fields.{half}
+use Rattle.btree_format.specs.Rules.{All, First, LikeMagic}
 use Rattle.database_header.specs.declared.header.Database.{Database}
 use Rattle.database_header.specs.declared.header.Fault.{Fault}
 use Rattle.database_header.specs.declared.header.Fault.the-variants.{Length, Magic, PageSize, UsableSize}
@@ -36,14 +36,14 @@ pub data Rule : Type 0 where
 abbrev pub rules : List Rule
 rules = whole ∷ magic-string ∷ page-size ∷ usable-size ∷ []
 
-abbrev pub Holds : List ℕ → Rule → Type 0
+abbrev pub HeaderRuleHolds : List ℕ → Rule → Type 0
 -- 'the first 100 bytes of the database file (the database file header)'
-Holds b whole = 100 ≤ length b
+HeaderRuleHolds b whole = 100 ≤ length b
 -- 'Every valid SQLite database file begins with the following 16 bytes'
-Holds b magic-string = (i : ℕ) → i < 16 → LikeMagic b i
-Holds b page-size = isPageSize (pageSize b) ≡ true
+HeaderRuleHolds b magic-string = (i : ℕ) → i < 16 → LikeMagic b i
+HeaderRuleHolds b page-size = isPageSize (pageSize b) ≡ true
 -- 'the usable size is not allowed to be less than 480'
-Holds b usable-size = 480 ≤ pageSize b - reserved b
+HeaderRuleHolds b usable-size = 480 ≤ pageSize b - reserved b
 
 -- ── the answer ───────────────────────────────────────────────────────────────
 -- how many rules come before the one that the fault breaks
@@ -55,13 +55,13 @@ before UsableSize = 3
 
 -- the rule fails; for the magic string, that byte is the first that differs
 abbrev pub Fails : List ℕ → Fault → Type 0
-Fails b Length = Holds b whole → ⊥
+Fails b Length = HeaderRuleHolds b whole → ⊥
 Fails b (Magic at) = First (LikeMagic b) 16 at
-Fails b PageSize = Holds b page-size → ⊥
-Fails b UsableSize = Holds b usable-size → ⊥
+Fails b PageSize = HeaderRuleHolds b page-size → ⊥
+Fails b UsableSize = HeaderRuleHolds b usable-size → ⊥
 
 abbrev pub Obeys : List ℕ → List Rule → Type 0
-Obeys b = All (Holds b)
+Obeys b = All (HeaderRuleHolds b)
 
 -- the first rule that fails
 pub record Refuses (b : List ℕ) (f : Fault) : Type 0 where

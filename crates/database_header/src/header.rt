@@ -1,8 +1,8 @@
 // The header of a database.
-use page_format::Place;
-use page_format::first_unlike;
-use page_format::half_at;
-use page_format::is_usable;
+use btree_format::Place;
+use btree_format::first_unlike;
+use btree_format::half_at;
+use btree_format::is_usable;
 use page_size::is_page_size;
 ghost use mathlib.Core.Path.{_≡_};
 ghost use Prim.Native.Nat.{_≤_};

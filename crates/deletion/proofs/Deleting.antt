@@ -21,7 +21,7 @@ use Rattle.model.specs.Step.{act, step}
 use Rattle.memory.specs.Memory.{Memory}
 use Rattle.memory.specs.Holds.{Holds, seen}
 use Rattle.memory.proofs.Standing.{holds-standing}
-use Rattle.answer.specs.Answer.{codeOf, valueOf, refusedAs, plainly, Comes}
+use Rattle.answer.specs.Answer.{codeOf, valueOf, refusedAs, plainly, MatchesOutcome}
 use Rattle.answer.specs.declared.answer.Answer.{Answer}
 use Rattle.answer.specs.declared.answer.Answer.the-variants.{Done, ShortList}
 use Rattle.answer.specs.declared.answered.Answered.{Answered}
@@ -74,7 +74,7 @@ can-delete {c = c} {key = key} H found long = record {
 module _ {c : Cache} {p : Page} {list : List ℕ} {m′ : Memory} {list′ : List ℕ} where
   -- the page goes, is listed first, and `done` is answered
   pub goes-comes : (done : Answer) {head′ : PageCache} → 0 < length list → Goes c p list 0 m′ list′ head′
-      → Comes (deleting p (answer (codeOf done) (valueOf done)) c) list m′ list′ (record { answer = done; passed = 0; listed = 1; head = head′ })
+      → MatchesOutcome (deleting p (answer (codeOf done) (valueOf done)) c) list m′ list′ (record { answer = done; passed = 0; listed = 1; head = head′ })
   goes-comes done place goes = comes-as (deleting-done p (answer (codeOf done) (valueOf done)) c (goes .may)) (record {
     follows = listing-follows (p .handle ∷ []) (plain-follows done (goes .holds)) refl;
     wrote = rw (goes .listed) (wrote-next (wrote-none list) (p .handle) place);
@@ -82,11 +82,11 @@ module _ {c : Cache} {p : Page} {list : List ℕ} {m′ : Memory} {list′ : Lis
 
   -- the page stays, whatever was to follow
   pub stays-comes : (follow : Cache → Outcome) {m : Memory} {head : PageCache} {a : Answer} → Holds m head c → Stays p m list m′ list′ a
-      → Comes (deleting p follow c) list m′ list′ (plainly a head)
+      → MatchesOutcome (deleting p follow c) list m′ list′ (plainly a head)
   stays-comes follow {m} {head} H stays =
       let why : Answer = refusedAs (record { 0 = p .key }) (deletable (p .state)) in
       comes-as (deleting-refused p follow c (deletable (p .state)) refl (stays .may-not))
-      (subst₃ (λ (x : Memory) (l : List ℕ) (a : Answer). Comes (answer (codeOf why) (valueOf why) c) list x l (plainly a head)) (sym (stays .kept)) (sym (stays .list-kept)) (sym (stays .because))
+      (subst₃ (λ (x : Memory) (l : List ℕ) (a : Answer). MatchesOutcome (answer (codeOf why) (valueOf why) c) list x l (plainly a head)) (sym (stays .kept)) (sym (stays .list-kept)) (sym (stays .because))
       (plain-comes why H list))
 
 -- ── the call ─────────────────────────────────────────────────────────────────
@@ -98,13 +98,13 @@ delete-found key {places} {c = c} H long is =
     ∙ ap {B = Outcome} (λ (x : Option Entry). deleteFound x c) is
 
 module _ {m : Memory} {head : PageCache} {c : Cache} (H : Holds m head c) (key : ℕ) {list : List ℕ} where
-  pub delete-short : length list < head .held → Comes (step (delete key (length list)) c) list m list (plainly ShortList head)
+  pub delete-short : length list < head .held → MatchesOutcome (step (delete key (length list)) c) list m list (plainly ShortList head)
   delete-short short = comes-as (step-short-list (delete key (length list)) refl refl (list-short H short)) (plain-comes ShortList H list)
 
   module _ (long : head .held ≤ length list) where
-    pub delete-absent : find key (c .row) ≡ none → Comes (step (delete key (length list)) c) list m list (plainly (Done 0) head)
+    pub delete-absent : find key (c .row) ≡ none → MatchesOutcome (step (delete key (length list)) c) list m list (plainly (Done 0) head)
     delete-absent absent = comes-as (delete-found key H long absent) (plain-comes (Done 0) H list)
 
     pub delete-there : {s : ℕ} {e : Entry} → StandsAt (c .row) key s e → {m′ : Memory} {list′ : List ℕ} {r : Answered}
-        → Comes (deleting (e .page) (answer 0 0) c) list m′ list′ r → Comes (step (delete key (length list)) c) list m′ list′ r
+        → MatchesOutcome (deleting (e .page) (answer 0 0) c) list m′ list′ r → MatchesOutcome (step (delete key (length list)) c) list m′ list′ r
     delete-there at comes = comes-as (delete-found key H long (at .found)) comes

@@ -15,7 +15,7 @@ ghost use Rattle.model.specs.Rules.{deleting};
 ghost use Rattle.model.specs.Step.{step};
 ghost use Rattle.memory.specs.Memory.{memory, memories};
 ghost use Rattle.memory.specs.Holds.{Holds, Sound};
-ghost use Rattle.answer.specs.Answer.{codeOf, valueOf, Comes};
+ghost use Rattle.answer.specs.Answer.{codeOf, valueOf, MatchesOutcome};
 ghost use Rattle.moves.specs.Moves.{StandsAt};
 ghost use Rattle.deletion.specs.Deletion.{CanDelete, DeletionOf};
 
@@ -62,7 +62,7 @@ pub fn delete_at(
     done: Answer,
 ) -> Answered
     requires { ⌜ CanDelete (memory slots «by_key» «by_handle» marks) head (s .0) (now list) 0 ⌝ }
-    ensures { λ r. let m = memories slots «by_key» «by_handle» marks in ⌜ ((c : Cache) (key : ℕ) (e : Entry) → Holds (m .entry) head c → StandsAt (c .row) key (s .0) e → Comes (deleting (e .page) (answer (codeOf done) (valueOf done)) c) (now (list .entry)) (m .exit) (now (list .exit)) r) ⌝ }
+    ensures { λ r. let m = memories slots «by_key» «by_handle» marks in ⌜ ((c : Cache) (key : ℕ) (e : Entry) → Holds (m .entry) head c → StandsAt (c .row) key (s .0) e → MatchesOutcome (deleting (e .page) (answer (codeOf done) (valueOf done)) c) (now (list .entry)) (m .exit) (now (list .exit)) r) ⌝ }
 {
     match delete_page(slots, by_key, by_handle, marks, list, 0, head, s) {
         Deletion::Deleted(left) => Answered {
@@ -86,7 +86,7 @@ pub fn delete(
     key: PageCacheKey,
 ) -> Answered
     requires { ⌜ Sound (memory slots «by_key» «by_handle» marks) head ⌝ }
-    ensures { λ r. let m = memories slots «by_key» «by_handle» marks in ⌜ ((c : Cache) → Holds (m .entry) head c → Comes (step (delete (key .0) (length (now (list .entry)))) c) (now (list .entry)) (m .exit) (now (list .exit)) r) ⌝ }
+    ensures { λ r. let m = memories slots «by_key» «by_handle» marks in ⌜ ((c : Cache) → Holds (m .entry) head c → MatchesOutcome (step (delete (key .0) (length (now (list .entry)))) c) (now (list .entry)) (m .exit) (now (list .exit)) r) ⌝ }
 {
     if list.len() < head.held as usize {
         return Answered::plain(Answer::ShortList, head);

@@ -17,7 +17,7 @@ use Rattle.creating.specs.Creation.{CreatedWell, done, too-large, bad-lengths, 
 use Rattle.creating.specs.Creation as creation
 use Rattle.creating.specs.declared.creating.Created.{Created}
 use Rattle.creating.specs.declared.creating.Created.the-variants as created
-use Rattle.answer.specs.Answer.{Comes, codeOf}
+use Rattle.answer.specs.Answer.{MatchesOutcome, codeOf}
 use Rattle.answer.specs.declared.answer.Answer.the-variants.{Done, TooLarge}
 use Rattle.answer.specs.declared.answered.Answered.{Answered}
 use Rattle.answer.proofs.Steps.{step-acts, step-too-large, plain-comes, comes-as, comes-told}
@@ -47,16 +47,16 @@ module _ {capacity : ℕ} {before after : State} {head : PageCache} {r : Answere
 
   -- on memory that holds a cache
   pub creation-comes : (c : Cache) → Holds (before .memory) head c
-      → Comes (step (create capacity) c) (before .list) (after .memory) (after .list) r
+      → MatchesOutcome (step (create capacity) c) (before .list) (after .memory) (after .list) r
   creation-comes c h = comes-told (x .makes .answer)
-      (subst (λ list. Comes (step (create capacity) c) (before .list) (after .memory) list (answeredAs (x .makes .made) head)) (sym (x .list))
+      (subst (λ list. MatchesOutcome (step (create capacity) c) (before .list) (after .memory) list (answeredAs (x .makes .made) head)) (sym (x .list))
       (go (x .makes .made) (x .makes .creates)))
     where
       size : c .size ≡ length (before .memory .by-key)
       size = sym (h .lengths .by-key)
 
       go : (made : Created) → Creates (before .memory) capacity made (after .memory)
-          → Comes (step (create capacity) c) (before .list) (after .memory) (before .list) (answeredAs made head)
+          → MatchesOutcome (step (create capacity) c) (before .list) (after .memory) (before .list) (answeredAs made head)
       go (created.Done new) (done w) =
           let holds : Holds (after .memory) new (fresh (c .size) capacity) =
           subst (λ (n : ℕ). Holds (after .memory) new (fresh n capacity)) (sym size) (w .holds) in

@@ -11,7 +11,7 @@ use Rattle.model.specs.Call.{Call}
 use Rattle.model.specs.Step.{step}
 use Rattle.memory.specs.Memory.{Memory}
 use Rattle.memory.specs.Holds.{Holds, Sound}
-use Rattle.answer.specs.Answer.{Comes, plainly}
+use Rattle.answer.specs.Answer.{MatchesOutcome, plainly}
 use Rattle.answer.specs.declared.answer.Answer.the-variants.{BadReplay}
 use Rattle.answer.specs.declared.answered.Answered.{Answered}
 use Rattle.contract.specs.Called.{State}
@@ -38,7 +38,7 @@ module _ {asked : Record} {before : State} {head : PageCache} {after : State} {r
   ran-as x is runs = record { runs = subst (λ (y : Request). Runs y before head after r) (sym is) runs }
 
   pub ran-call : (k : ℕ) (x : Call) → getD (operations asked (length (before .list))) k none ≡ call x → asked .operation ≡ k
-      → ((c : Cache) → Holds (before .memory) head c → Comes (step x c) (before .list) (after .memory) (after .list) r)
+      → ((c : Cache) → Holds (before .memory) head c → MatchesOutcome (step x c) (before .list) (after .memory) (after .list) r)
       → Ran asked before head after r
   ran-call k x stands is comes = ran-as (call x) (at-place asked (length (before .list)) k is ∙ stands) comes
 

@@ -10,7 +10,7 @@ use Rattle.memory.specs.Holds.{Holds, Sound}
 use Rattle.creating.specs.Creation.{Creates}
 use Rattle.creating.specs.declared.creating.Created.{Created}
 use Rattle.creating.specs.declared.creating.Created.the-variants as created
-use Rattle.answer.specs.Answer.{Comes, plainly}
+use Rattle.answer.specs.Answer.{MatchesOutcome, plainly}
 use Rattle.answer.specs.declared.answer.Answer.the-variants.{Done, BadLengths, TooLarge, BadReplay}
 use Rattle.answer.specs.declared.answered.Answered.{Answered}
 use Rattle.contract.specs.Called.{State}
@@ -50,7 +50,7 @@ abbrev pub Runs : Request → (before : State) (head : PageCache) (after : State
 Runs none before head after r = Refuses before head after r
 Runs (creation capacity) before head after r = Creation capacity before head after r
 Runs (call x) before head after r =
-    (c : Cache) → Holds (before .memory) head c → Comes (step x c) (before .list) (after .memory) (after .list) r
+    (c : Cache) → Holds (before .memory) head c → MatchesOutcome (step x c) (before .list) (after .memory) (after .list) r
 
 -- the contract of `dispatch`: what the record asks for, with a list of that length, is carried out
 pub record Ran (asked : Record) (before : State) (head : PageCache) (after : State) (r : Answered) : Type 0 where

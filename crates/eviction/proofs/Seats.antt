@@ -11,10 +11,10 @@ use Rattle.page.proofs.Each.{each-turn}
 use Rattle.pool.specs.Slots.{blank}
 use Rattle.ring_links.proofs.Columns.{kept}
 use Rattle.ring_links.proofs.Rings.{turn}
-use Rattle.order.specs.Names.{names}
-use Rattle.order.specs.declared.search.By.{By}
-use Rattle.order.specs.declared.search.By.the-variants.{Key, Handle}
-use Rattle.order.proofs.Membership.{has-here}
+use Rattle.sorted_index.specs.Names.{names}
+use Rattle.sorted_index.specs.declared.search.By.{By}
+use Rattle.sorted_index.specs.declared.search.By.the-variants.{Key, Handle}
+use Rattle.sorted_index.proofs.Membership.{has-here}
 use Rattle.model.specs.Cache.{pageMayGo}
 use Rattle.model.specs.Sweep.{lower}
 use Rattle.memory.specs.Holds.{Seated, rowOf}

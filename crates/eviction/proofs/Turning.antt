@@ -11,14 +11,14 @@ use Rattle.page.specs.declared.entry.PageCacheEntry.{PageCacheEntry}
 use Rattle.page.specs.declared.names.Slot.{Slot}
 use Rattle.ring_links.specs.Ring.{has, firstOf}
 use Rattle.pool.specs.Slots.{entries}
-use Rattle.order.specs.declared.search.By.the-variants.{Key, Handle}
-use Rattle.order.proofs.Listed.{listed-seats}
+use Rattle.sorted_index.specs.declared.search.By.the-variants.{Key, Handle}
+use Rattle.sorted_index.proofs.Listed.{listed-seats}
 use Rattle.model.specs.Cache.{Cache, withRow, pageMayGo}
 use Rattle.model.specs.Rooms.{sweepOf}
 use Rattle.model.specs.Row.{Row, Each}
 use Rattle.model.specs.Sweep.{Swept, looks, sweep}
 use Rattle.memory.specs.Memory.{Memory}
-use Rattle.memory.specs.Holds.{Seated, rowOf, Fine, Holds}
+use Rattle.memory.specs.Holds.{Seated, rowOf, EntryGood, Holds}
 use Rattle.memory.proofs.Marks.{marked-seats}
 use Rattle.memory.proofs.OnceKept.{holds-held}
 use Rattle.eviction.specs.Sweep.{Sweepable, comesTo, SweptFrom, SweptAs}
@@ -118,6 +118,6 @@ module _ {m : Memory} {head : PageCache} {c : Cache} (H : Holds m head c) {slots
       some = H .limits .some;
       most = H .limits .most;
       capacity = H .limits .capacity;
-      fine = came-from .turned .fine (subst (Each Fine) (row-from-hand H (d .some-held)) (H .limits .fine));
+      good = came-from .turned .good (subst (Each EntryGood) (row-from-hand H (d .some-held)) (H .limits .good));
     };
   }

@@ -10,7 +10,7 @@ use Rattle.memory.specs.Holds.{Holds, Sound}
 use Rattle.eviction.specs.declared.making_room.Room as code
 
 -- the memory is sound, and the list has a place for every page that is held, after those that are listed already
-pub record Ready (m : Memory) (head : PageCache) (list : List ℕ) (listed : ℕ) : Type 0 where
+pub record ReadyToEvict (m : Memory) (head : PageCache) (list : List ℕ) (listed : ℕ) : Type 0 where
   pub sound : Sound m head
   pub places : listed + head .held ≤ length list
 

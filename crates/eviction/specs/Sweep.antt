@@ -11,12 +11,12 @@ use Rattle.page.specs.declared.names.Slot.{Slot}
 use Rattle.ring_links.specs.Links.{nextAt}
 use Rattle.ring_links.specs.Ring.{has}
 use Rattle.pool.specs.Slots.{blank}
-use Rattle.order.specs.Names.{names}
-use Rattle.order.specs.declared.search.By.{By}
+use Rattle.sorted_index.specs.Names.{names}
+use Rattle.sorted_index.specs.declared.search.By.{By}
 use Rattle.model.specs.Cache.{pageMayGo}
 use Rattle.model.specs.Row.{Entry, Each}
 use Rattle.model.specs.Sweep.{Swept, lower, goesNow, looks}
-use Rattle.memory.specs.Holds.{Fine, Seated, seen, rowOf}
+use Rattle.memory.specs.Holds.{EntryGood, Seated, seen, rowOf}
 use Rattle.eviction.specs.declared.sweeping.Look.{Look}
 use Rattle.eviction.specs.declared.sweeping.Look.the-variants.{Takes, Passes}
 use Rattle.eviction.specs.declared.sweeping.Swept as code
@@ -64,7 +64,7 @@ pub record Turned (es : List PageCacheEntry) (seats : List ℕ) (es′ : List Pa
   -- all keys and handles are as they were
   pub named : (by : By) → names by es′ ≡ names by es
   -- the entries are within their limits, if they were before
-  pub fine : Each Fine (rowOf es seats) → Each Fine (rowOf es′ (at ∷ rest))
+  pub good : Each EntryGood (rowOf es seats) → Each EntryGood (rowOf es′ (at ∷ rest))
 
 -- the ring begins where the sweep ended, and 4 * held looks of the model come to what the sweep says
 pub record SweptFrom (es : List PageCacheEntry) (seats : List ℕ) (held : ℕ) (es′ : List PageCacheEntry) (r : code.Swept) : Type 0 where

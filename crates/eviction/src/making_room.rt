@@ -6,7 +6,7 @@ ghost use Rattle.model.specs.Cache.{Cache};
 ghost use Rattle.model.specs.Rooms.{evictTo, makeRoom};
 ghost use Rattle.memory.specs.Memory.{memory, memories};
 ghost use Rattle.memory.specs.Holds.{Holds};
-ghost use Rattle.eviction.specs.Room.{Ready, Made};
+ghost use Rattle.eviction.specs.Room.{ReadyToEvict, Made};
 
 pub struct Room {
     // Whether there is no room, because no page may go or the capacity is 0. What went before is gone all the same.
@@ -31,7 +31,7 @@ pub fn evict_to(
     head: PageCache,
     target: u32,
 ) -> Room
-    requires { ⌜ Ready (memory slots «by_key» «by_handle» marks) head (now list) listed ⌝ }
+    requires { ⌜ ReadyToEvict (memory slots «by_key» «by_handle» marks) head (now list) listed ⌝ }
     ensures { λ r. let m = memories slots «by_key» «by_handle» marks in ⌜ ((c : Cache) → Holds (m .entry) head c → Made (evictTo target c) (now (list .entry)) listed (m .exit) (now (list .exit)) r) ⌝ }
 {
     let mut left = head;
@@ -78,7 +78,7 @@ pub fn make_room_for(
     listed: usize,
     head: PageCache,
 ) -> Room
-    requires { ⌜ Ready (memory slots «by_key» «by_handle» marks) head (now list) listed ⌝ }
+    requires { ⌜ ReadyToEvict (memory slots «by_key» «by_handle» marks) head (now list) listed ⌝ }
     ensures { λ r. let m = memories slots «by_key» «by_handle» marks in ⌜ ((c : Cache) → Holds (m .entry) head c → Made (makeRoom c) (now (list .entry)) listed (m .exit) (now (list .exit)) r) ⌝ }
 {
     if head.capacity == 0 {

@@ -4,11 +4,11 @@ ghost use mathlib.Core.Path.{_≡_};
 ghost use Prim.Native.Nat.{_/_, _<_};
 ghost use lib.ListN.{length};
 ghost use Rattle.free_marks.specs.Marks.{bitAt, MarkedAs, SomeFree, LowestFree};
-ghost use Rattle.pool.specs.Tells.{Tells};
+ghost use Rattle.pool.specs.Decides.{Decides};
 
 pub fn is_free(marks: &[u64], s: Slot) -> bool
     requires { ⌜ s .0 / 64 < length (now marks) ⌝ }
-    ensures { λ r. ⌜ Tells r (bitAt (now (marks .entry)) (s .0) ≡ 1) ⌝ }
+    ensures { λ r. ⌜ Decides r (bitAt (now (marks .entry)) (s .0) ≡ 1) ⌝ }
 {
     let w = s.0 as usize / 64;
     (marks[w] >> (s.0 % 64)) % 2 == 1

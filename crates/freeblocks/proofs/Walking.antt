@@ -3,10 +3,10 @@ use mathlib.Core.Path.{_≡_, sym, subst, _∙_}
 use mathlib.Core.List.{List}
 use Prim.Native.Nat.{ℕ, _+_, _-_, _<_}
 use native.Mathlib.Omega.{arith}
-use Rattle.page_format.specs.Fields.{half, sizeAt}
-use Rattle.page_format.specs.Rules.{Chain, ends, bad-link, bad-size, goes-on, Placed, Sized}
-use Rattle.page_format.specs.declared.answer.Place.{Place}
-use Rattle.page_format.specs.declared.answer.Place.the-variants.{Nowhere, At}
+use Rattle.btree_format.specs.Fields.{half, sizeAt}
+use Rattle.btree_format.specs.Rules.{Chain, ends, bad-link, bad-size, goes-on, Placed, Sized}
+use Rattle.btree_format.specs.declared.answer.Place.{Place}
+use Rattle.btree_format.specs.declared.answer.Place.the-variants.{Nowhere, At}
 use Rattle.freeblocks.specs.Chained.{Linked}
 
 -- the walk along the chain from `link` on has reached the link at `at`, and the blocks so far end at `free`

@@ -4,9 +4,9 @@
 //
 // Callers may rely on `first_bad` for any bytes of the page: a chain is bad at the first link that goes back, or to where no block may
 // stand. The walk ends, since each block lies after the end of the one before.
-use page_format::Place;
-use page_format::half_at;
-ghost use Rattle.page_format.specs.Rules.{Chain};
+use btree_format::Place;
+use btree_format::half_at;
+ghost use Rattle.btree_format.specs.Rules.{Chain};
 ghost use Rattle.freeblocks.specs.Chained.{Linked};
 
 // The bytes of a block's link and size: no block is smaller.

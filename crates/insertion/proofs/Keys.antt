@@ -25,28 +25,28 @@ use Rattle.moves.specs.Moves.{KeyAt, KeyGap, Replaceable}
 use Rattle.moves.proofs.Search.{handle-miss}
 use Rattle.moves.proofs.Removal.{slot-inside}
 use Rattle.deletion.proofs.Deleting.{stored-is}
-use Rattle.insertion.specs.declared.form.Request.{Request}
-use Rattle.insertion.specs.declared.form.Insertion.{Insertion}
-use Rattle.insertion.specs.declared.form.Insertion.the-variants.{Plain, Forced, Upsert}
-use Rattle.insertion.specs.Form.{insertionOf}
+use Rattle.insertion.specs.declared.mode.NewPage.{NewPage}
+use Rattle.insertion.specs.declared.mode.InsertMode.{InsertMode}
+use Rattle.insertion.specs.declared.mode.InsertMode.the-variants.{Plain, Forced, Upsert}
+use Rattle.insertion.specs.Mode.{insertionOf}
 use Rattle.insertion.specs.Admit.{admitting, Admissible, Admits}
 use Rattle.insertion.specs.Present.{Presents}
-use Rattle.insertion.specs.Renew.{Found, InsertsStale}
+use Rattle.insertion.specs.Renew.{KeyFound, InsertsStale}
 use Rattle.insertion.proofs.Names.{absent-new}
 use Rattle.insertion.specs.Insert.{InsertsFound, Insertable, Inserts}
 
 -- ── the model's rule ─────────────────────────────────────────────────────────
-module _ (asked : Request) where
+module _ (asked : NewPage) where
   abbrev foundAs : Option Entry → Cache → Outcome
-  foundAs = insertFound (asked .key .0) (asked .handle .0) (asked .page) (insertionOf (asked .form))
+  foundAs = insertFound (asked .key .0) (asked .handle .0) (asked .page) (insertionOf (asked .mode))
 
   by-key : {v : Option Entry} (c : Cache) → find (asked .key .0) (c .row) ≡ v
-      → onInsert (asked .key .0) (asked .handle .0) (asked .page) (insertionOf (asked .form)) c ≡ foundAs v c
+      → onInsert (asked .key .0) (asked .handle .0) (asked .page) (insertionOf (asked .mode)) c ≡ foundAs v c
   unfolding onInsert
   by-key c q = ap {B = Outcome} (λ (v : Option Entry). foundAs v c) q
 
   abbrev presentAs : Page → Cache → Outcome
-  presentAs = present (asked .key .0) (asked .handle .0) (asked .page) (insertionOf (asked .form))
+  presentAs = present (asked .key .0) (asked .handle .0) (asked .page) (insertionOf (asked .mode))
 
   by-staleness : {b : Bool} (e : Entry) (c : Cache) → stale (e .page .state) ≡ b
       → foundAs (some e) c ≡ elim b [ true ↦ deleting (e .page) (admitting asked) c | false ↦ presentAs (e .page) c ]
@@ -54,15 +54,15 @@ module _ (asked : Request) where
 
   -- a page that stays where it is: nothing is listed
   present-lists : (p : Page) (c : Cache) → presentAs p c .listed ≡ []
-  present-lists p c = go (asked .form)
+  present-lists p c = go (asked .mode)
     where
-      go : (form : Insertion) → present (asked .key .0) (asked .handle .0) (asked .page) (insertionOf form) p c .listed ≡ []
+      go : (mode : InsertMode) → present (asked .key .0) (asked .handle .0) (asked .page) (insertionOf mode) p c .listed ≡ []
       go Plain = either (λ (o : Outcome). o .listed ≡ []) (eqb (p .handle) (asked .handle .0)) (λ _. refl) (λ _. refl)
       go Forced = either (λ (o : Outcome). o .listed ≡ []) (eqb (p .handle) (asked .handle .0)) (λ _. refl) (λ _. refl)
       go Upsert = refl
 
 -- ── the key is absent ────────────────────────────────────────────────────────
-module _ {m : Memory} {head : PageCache} {list : List ℕ} {asked : Request} where
+module _ {m : Memory} {head : PageCache} {list : List ℕ} {asked : NewPage} where
   pub absent-admissible : {at gap : ℕ} → Insertable m head list gap asked → KeyGap (m .slots) (m .by-key) (head .held) (asked .key .0) at
       → Admissible m head list 0 (record { key = at; handle = gap }) asked
   absent-admissible w absent = record {
@@ -92,7 +92,7 @@ module _ {m : Memory} {head : PageCache} {list : List ℕ} {asked : Request} whe
           comes-as (by-key asked c (at c H .stands .found)) (found .comes c (at c H .entry) H k (at c H .stands) free);
     }
 
-  pub key-found : {s gap : ℕ} (w : Insertable m head list gap asked) → KeyAt (w .cache .row) (asked .key .0) s → Found m head list s asked
+  pub key-found : {s gap : ℕ} (w : Insertable m head list gap asked) → KeyAt (w .cache .row) (asked .key .0) s → KeyFound m head list s asked
   key-found w t = record {
     cache = w .cache;
     entry = t .entry;
@@ -105,11 +105,11 @@ module _ {m : Memory} {head : PageCache} {list : List ℕ} {asked : Request} whe
   }
 
 -- ── loaded or locked, or neither ─────────────────────────────────────────────
-module _ {m : Memory} {head : PageCache} {list : List ℕ} {s : ℕ} {asked : Request} where
-  pub found-inside : Found m head list s asked → s < length (entries (m .slots))
+module _ {m : Memory} {head : PageCache} {list : List ℕ} {s : ℕ} {asked : NewPage} where
+  pub found-inside : KeyFound m head list s asked → s < length (entries (m .slots))
   found-inside w = slot-inside (w .holds) (w .stands)
 
-  pub found-replaceable : Found m head list s asked → Replaceable (m .slots) (m .by-handle) head s (asked .handle .0) (asked .page)
+  pub found-replaceable : KeyFound m head list s asked → Replaceable (m .slots) (m .by-handle) head s (asked .handle .0) (asked .page)
   found-replaceable w = record {
     by-key = m .by-key;
     marks = m .marks;

@@ -6,7 +6,7 @@ use mathlib.Core.List.{[], _∷_, _++_}
 use mathlib.Core.Option.{none, some}
 use Prim.Native.Nat.{ℕ}
 use Rattle.model.specs.Cache.{Cache, leave}
-use Rattle.model.specs.Limits.{Kept}
+use Rattle.model.specs.Limits.{CacheInvariant}
 use Rattle.model.specs.Row.{Entry, Row, Each, find, without}
 use Rattle.model.specs.Tests.{underOther}
 use Rattle.model.proofs.ByKey.{Stands, find-stands, find-none, stands-without}
@@ -27,7 +27,7 @@ module _ (key handle : ℕ) where
       record { keys = other; handles = handles-new row other (under-each key handle row free) }
 
   -- without the key's own page
-  pub deleted-new : (c : Cache) (e : Entry) → Kept c → find key (c .row) ≡ some e → underOther key handle (c .row) ≡ false
+  pub deleted-new : (c : Cache) (e : Entry) → CacheInvariant c → find key (c .row) ≡ some e → underOther key handle (c .row) ≡ false
       → NewNames key handle (leave (e .page) c .row)
   deleted-new c e k found free =
       let s : Stands key (c .row) e = find-stands key (c .row) e found in

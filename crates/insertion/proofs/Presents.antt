@@ -25,21 +25,21 @@ use Rattle.answer.proofs.Steps.{follows-as, plain-follows, touching-follows}
 use Rattle.moves.specs.Moves.{StandsAt, Replaceable, Touches, Replaces}
 use Rattle.moves.proofs.Change.{stands-touched, free-touched}
 use Rattle.deletion.proofs.Deleting.{stored-is}
-use Rattle.insertion.specs.declared.form.Request.{Request}
-use Rattle.insertion.specs.declared.form.Insertion.{Insertion}
-use Rattle.insertion.specs.declared.form.Insertion.the-variants.{Plain, Forced, Upsert}
-use Rattle.insertion.specs.Form.{insertionOf, replaces}
+use Rattle.insertion.specs.declared.mode.NewPage.{NewPage}
+use Rattle.insertion.specs.declared.mode.InsertMode.{InsertMode}
+use Rattle.insertion.specs.declared.mode.InsertMode.the-variants.{Plain, Forced, Upsert}
+use Rattle.insertion.specs.Mode.{insertionOf, replaces}
 use Rattle.insertion.specs.Present.{Presents}
 
--- ── the form decides ─────────────────────────────────────────────────────────
+-- ── the mode decides ─────────────────────────────────────────────────────────
 module _ (key handle : ℕ) (page : PageRecord) (p : Page) (c : Cache) where
-  replaces-upsert : (form : Insertion) → replaces form ≡ true
-      → present key handle page (insertionOf form) p c ≡ present key handle page upsert p c
+  replaces-upsert : (mode : InsertMode) → replaces mode ≡ true
+      → present key handle page (insertionOf mode) p c ≡ present key handle page upsert p c
   replaces-upsert Plain q = absurd (false≢true q)
   replaces-upsert Forced q = absurd (false≢true q)
   replaces-upsert Upsert q = refl
 
-  keeps-exists : (form : Insertion) → replaces form ≡ false → present key handle page (insertionOf form) p c ≡ keyExists key handle page p c
+  keeps-exists : (mode : InsertMode) → replaces mode ≡ false → present key handle page (insertionOf mode) p c ≡ keyExists key handle page p c
   keeps-exists Plain q = refl
   keeps-exists Forced q = refl
   keeps-exists Upsert q = absurd (true≢false q)
@@ -73,13 +73,13 @@ old-handle : {m : Memory} {head : PageCache} {c : Cache} {key s : ℕ} {e : Entr
     → stored ≡ getD (entries (m .slots)) s blank → stored .handle .0 ≡ e .page .handle
 old-handle H at loaded = ap (λ (x : Entry). x .page .handle) (stored-is H at loaded)
 
-module _ {slots by-handle : List ℕ} {head : PageCache} {s : ℕ} {asked : Request} {stored : PageCacheEntry} (loaded : stored ≡ getD (entries slots) s blank) where
-  pub presents-replaced : {slots′ slots″ by-handle″ : List ℕ} {head″ : PageCache} → replaces (asked .form) ≡ true → Touches slots s slots′
+module _ {slots by-handle : List ℕ} {head : PageCache} {s : ℕ} {asked : NewPage} {stored : PageCacheEntry} (loaded : stored ≡ getD (entries slots) s blank) where
+  pub presents-replaced : {slots′ slots″ by-handle″ : List ℕ} {head″ : PageCache} → replaces (asked .mode) ≡ true → Touches slots s slots′
       → Replaces slots′ by-handle head s (asked .handle .0) (asked .page) slots″ by-handle″ head″
       → Presents slots by-handle head s asked slots″ by-handle″ (plainly (Done (stored .handle .0)) head″)
   presents-replaced q t r = record {
     follows = λ by-key marks c key e H at free.
-        follows-as (replaces-upsert key (asked .handle .0) (asked .page) (e .page) c (asked .form) q) (record {
+        follows-as (replaces-upsert key (asked .handle .0) (asked .page) (e .page) c (asked .mode) q) (record {
           code = refl;
           value = old-handle H at loaded;
           passed = refl;
@@ -89,19 +89,19 @@ module _ {slots by-handle : List ℕ} {head : PageCache} {s : ℕ} {asked : Requ
   }
 
   -- another page under the key
-  pub presents-other : replaces (asked .form) ≡ false → stored .handle .0 ≢ asked .handle .0
+  pub presents-other : replaces (asked .mode) ≡ false → stored .handle .0 ≢ asked .handle .0
       → Presents slots by-handle head s asked slots by-handle (plainly OtherPage head)
   presents-other q other = record {
     follows = λ by-key marks c key e H at free.
-        follows-as (keeps-exists key (asked .handle .0) (asked .page) (e .page) c (asked .form) q ∙ ap {B = Outcome} (ifSame key c) (ne-eqb (e .page .handle) (asked .handle .0) (λ same. other (old-handle H at loaded ∙ same))))
+        follows-as (keeps-exists key (asked .handle .0) (asked .page) (e .page) c (asked .mode) q ∙ ap {B = Outcome} (ifSame key c) (ne-eqb (e .page .handle) (asked .handle .0) (λ same. other (old-handle H at loaded ∙ same))))
         (plain-follows OtherPage H);
   }
 
   -- the same page
-  pub presents-same : {slots′ : List ℕ} → replaces (asked .form) ≡ false → stored .handle .0 ≡ asked .handle .0 → Touches slots s slots′
+  pub presents-same : {slots′ : List ℕ} → replaces (asked .mode) ≡ false → stored .handle .0 ≡ asked .handle .0 → Touches slots s slots′
       → Presents slots by-handle head s asked slots′ by-handle (plainly KeyExists head)
   presents-same q same t = record {
     follows = λ by-key marks c key e H at free.
-        follows-as (keeps-exists key (asked .handle .0) (asked .page) (e .page) c (asked .form) q ∙ ap {B = Outcome} (ifSame key c) (eq-eqb (e .page .handle) (asked .handle .0) (sym (old-handle H at loaded) ∙ same)))
+        follows-as (keeps-exists key (asked .handle .0) (asked .page) (e .page) c (asked .mode) q ∙ ap {B = Outcome} (ifSame key c) (eq-eqb (e .page .handle) (asked .handle .0) (sym (old-handle H at loaded) ∙ same)))
         (touching-follows (plain-follows KeyExists (t _ _ _ _ _ _ _ H at)));
   }

@@ -23,9 +23,9 @@ use Rattle.deletion.specs.declared.deletion.Deletion.{Deletion}
 use Rattle.deletion.specs.declared.deletion.Deletion.the-variants.{Deleted, Refused}
 use Rattle.deletion.specs.Deletion.{CanDelete, Goes, Stays, DeletionOf}
 use Rattle.deletion.proofs.Deleting.{stays-comes}
-use Rattle.insertion.specs.declared.form.Request.{Request}
+use Rattle.insertion.specs.declared.mode.NewPage.{NewPage}
 use Rattle.insertion.specs.Admit.{admitting, Admissible, Admits}
-use Rattle.insertion.specs.Renew.{Found, InsertsStale}
+use Rattle.insertion.specs.Renew.{KeyFound, InsertsStale}
 use Rattle.insertion.proofs.Names.{deleted-new}
 
 -- what a deletion promises, once its answer is known
@@ -36,13 +36,13 @@ module _ (c : Cache) (p : Page) (m : Memory) (list : List ℕ) (place : ℕ) (m�
   pub says-stays : {why : Answer} → r ≡ Refused why → DeletionOf c p m list place m′ list′ r → Stays p m list m′ list′ why
   says-stays = subst (DeletionOf c p m list place m′ list′)
 
-module _ {m : Memory} {head : PageCache} {list : List ℕ} {s : ℕ} {asked : Request} where
-  abbrev less : (w : Found m head list s asked) → suc (heldIn (leave (w .entry .page) (w .cache))) ≡ heldIn (w .cache)
+module _ {m : Memory} {head : PageCache} {list : List ℕ} {s : ℕ} {asked : NewPage} where
+  abbrev less : (w : KeyFound m head list s asked) → suc (heldIn (leave (w .entry .page) (w .cache))) ≡ heldIn (w .cache)
   less w =
       without-held (w .entry .page .key) (w .cache .row) (w .entry)
       (stands-own (asked .key .0) (w .cache .row) (w .entry) (find-stands (asked .key .0) (w .cache .row) (w .entry) (w .stands .found)))
 
-  pub stale-deletable : Found m head list s asked → CanDelete m head s list 0
+  pub stale-deletable : KeyFound m head list s asked → CanDelete m head s list 0
   stale-deletable w = record {
     removable = record { cache = w .cache; key = asked .key .0; entry = w .entry; holds = w .holds; stands = w .stands };
     within = omega (arith, less w, holds-held (w .holds), w .long);
@@ -57,7 +57,7 @@ module _ {m : Memory} {head : PageCache} {list : List ℕ} {s : ℕ} {asked : Re
 
   module _ {m′ : Memory} {list′ : List ℕ} {head′ : PageCache}
       (goes : (c : Cache) (k : ℕ) (e : Entry) → Holds m head c → StandsAt (c .row) k s e → Goes c (e .page) list 0 m′ list′ head′) where
-    pub stale-unseated : Found m head list s asked
+    pub stale-unseated : KeyFound m head list s asked
         → Unseated (m′ .slots) (m′ .by-key) (m′ .by-handle) head′ (asked .key .0) (asked .handle .0)
     stale-unseated w = record {
       marks = m′ .marks;
@@ -66,7 +66,7 @@ module _ {m : Memory} {head : PageCache} {list : List ℕ} {s : ℕ} {asked : Re
       new = deleted-new (asked .key .0) (asked .handle .0) (w .cache) (w .entry) (w .kept) (w .stands .found) (w .free);
     }
 
-    pub stale-admissible : {gaps : Gaps} → Found m head list s asked → length list′ ≡ length list
+    pub stale-admissible : {gaps : Gaps} → KeyFound m head list s asked → length list′ ≡ length list
         → GapsOf (m′ .slots) (m′ .by-key) (m′ .by-handle) (head′ .held) (asked .key .0) (asked .handle .0) gaps
         → Admissible m′ head′ list′ 1 gaps asked
     stale-admissible w long right =
@@ -81,7 +81,7 @@ module _ {m : Memory} {head : PageCache} {list : List ℕ} {s : ℕ} {asked : Re
           few = omega (arith, less w, holds-held (gone .holds), holds-held (w .holds), holds-fits (w .holds), w .holds .limits .most);
         }
 
-    pub stale-admitted : {m″ : Memory} {list″ : List ℕ} {r : Answered} → Found m head list s asked
+    pub stale-admitted : {m″ : Memory} {list″ : List ℕ} {r : Answered} → KeyFound m head list s asked
         → Admits m′ head′ list′ 1 asked m″ list″ r → InsertsStale m head list s asked m″ list″ r
     stale-admitted w admits = record {
       comes = λ c e H k at free.

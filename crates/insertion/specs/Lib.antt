@@ -1,4 +1,4 @@
-pub mod Form
+pub mod Mode
 pub mod Admit
 pub mod Present
 pub mod Renew

@@ -7,7 +7,7 @@
 // have a place for every page that is held. Callers may rely on `admit` being the model's rule: its answer, the pages passed, the
 // evicted handles, listed after those that stood in the list before, and the cache that the memory holds afterwards. Evictions stand on
 // Full. The indexes are searched again only if a page was evicted.
-use crate::form::Request;
+use crate::mode::NewPage;
 use answer::Answer;
 use answer::Answered;
 use moves::Gaps;
@@ -26,7 +26,7 @@ pub fn admit(
     listed: usize,
     head: PageCache,
     gaps: Gaps,
-    asked: Request,
+    asked: NewPage,
 ) -> Answered
     requires { ⌜ Admissible (memory slots «by_key» «by_handle» marks) head (now list) listed gaps asked ⌝ }
     ensures { λ r. let m = memories slots «by_key» «by_handle» marks in ⌜ Admits (m .entry) head (now (list .entry)) listed asked (m .exit) (now (list .exit)) r ⌝ }
@@ -35,10 +35,10 @@ pub fn admit(
     let left = room.head;
     let passed = room.passed;
     let count = room.listed as u32;
-    let form = asked.form;
-    if room.full & !form.goes_in(left.held, by_key.len()) {
+    let mode = asked.mode;
+    if room.full & !mode.goes_in(left.held, by_key.len()) {
         return Answered {
-            answer: form.turned_away(),
+            answer: mode.turned_away(),
             passed,
             listed: count,
             head: left,
@@ -82,7 +82,7 @@ fn gaps_now(
     listed: usize,
     count: usize,
     gaps: Gaps,
-    asked: Request,
+    asked: NewPage,
 ) -> Gaps
     requires { ⌜ KnownBefore (now slots) (now «by_key») (now «by_handle») head listed count gaps asked ⌝ }
     ensures { λ r. ⌜ GapsOf (now (slots .entry)) (now («by_key» .entry)) (now («by_handle» .entry)) (head .held) (asked .key .0) (asked .handle .0) r ⌝ }

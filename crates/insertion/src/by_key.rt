@@ -6,7 +6,7 @@
 // under no other key. Callers may rely on both being the model's rules: the answer, the pages passed, the handles listed and the cache
 // that the memory holds afterwards.
 use crate::absent::admit;
-use crate::form::Request;
+use crate::mode::NewPage;
 use crate::present::present;
 use crate::stale::insert_stale;
 use answer::Answered;
@@ -15,7 +15,7 @@ use moves::Seat;
 use page::PageCache;
 use page::Slot;
 ghost use Rattle.memory.specs.Memory.{memory, memories};
-ghost use Rattle.insertion.specs.Renew.{Found};
+ghost use Rattle.insertion.specs.Renew.{KeyFound};
 ghost use Rattle.insertion.specs.Insert.{Insertable, Inserts, InsertsFound};
 
 pub fn insert_by_key(
@@ -26,7 +26,7 @@ pub fn insert_by_key(
     list: &mut [u32],
     head: PageCache,
     gap: usize,
-    asked: Request,
+    asked: NewPage,
 ) -> Answered
     requires { ⌜ Insertable (memory slots «by_key» «by_handle» marks) head (now list) gap asked ⌝ }
     ensures { λ r. let m = memories slots «by_key» «by_handle» marks in ⌜ Inserts (m .entry) head (now (list .entry)) asked (m .exit) (now (list .exit)) r ⌝ }
@@ -52,9 +52,9 @@ pub fn insert_found(
     list: &mut [u32],
     head: PageCache,
     s: Slot,
-    asked: Request,
+    asked: NewPage,
 ) -> Answered
-    requires { ⌜ Found (memory slots «by_key» «by_handle» marks) head (now list) (s .0) asked ⌝ }
+    requires { ⌜ KeyFound (memory slots «by_key» «by_handle» marks) head (now list) (s .0) asked ⌝ }
     ensures { λ r. let m = memories slots «by_key» «by_handle» marks in ⌜ InsertsFound (m .entry) head (now (list .entry)) (s .0) asked (m .exit) (now (list .exit)) r ⌝ }
 {
     let there = pool::load(slots, s).page;

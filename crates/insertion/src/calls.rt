@@ -1,8 +1,8 @@
 // The three insertions: the tests that come before the rules, in their order, and then the rules.
 use crate::by_key::insert_by_key;
 use crate::by_key::insert_found;
-use crate::form::Insertion;
-use crate::form::Request;
+use crate::mode::InsertMode;
+use crate::mode::NewPage;
 use answer::Answer;
 use answer::Answered;
 use moves::HandleSeat;
@@ -16,8 +16,8 @@ ghost use Rattle.model.specs.Call.{insert, plain, forced, upsert};
 ghost use Rattle.model.specs.Step.{step};
 ghost use Rattle.memory.specs.Memory.{memory, memories};
 ghost use Rattle.memory.specs.Holds.{Holds, Sound};
-ghost use Rattle.answer.specs.Answer.{Comes};
-ghost use Rattle.insertion.specs.Form.{insertionOf};
+ghost use Rattle.answer.specs.Answer.{MatchesOutcome};
+ghost use Rattle.insertion.specs.Mode.{insertionOf};
 
 // Inserts a page, if its key is absent and there is room or room can be made.
 pub fn insert(
@@ -32,13 +32,13 @@ pub fn insert(
     page: PageRecord,
 ) -> Answered
     requires { ⌜ Sound (memory slots «by_key» «by_handle» marks) head ⌝ }
-    ensures { λ r. let m = memories slots «by_key» «by_handle» marks in ⌜ ((c : Cache) → Holds (m .entry) head c → Comes (step (insert plain (key .0) (handle .0) page (length (now (list .entry)))) c) (now (list .entry)) (m .exit) (now (list .exit)) r) ⌝ }
+    ensures { λ r. let m = memories slots «by_key» «by_handle» marks in ⌜ ((c : Cache) → Holds (m .entry) head c → MatchesOutcome (step (insert plain (key .0) (handle .0) page (length (now (list .entry)))) c) (now (list .entry)) (m .exit) (now (list .exit)) r) ⌝ }
 {
-    let asked = Request {
+    let asked = NewPage {
         key,
         handle,
         page,
-        form: Insertion::Plain,
+        mode: InsertMode::Plain,
     };
     insert_page(slots, by_key, by_handle, marks, list, head, asked)
 }
@@ -57,13 +57,13 @@ pub fn force_upsert_page(
     page: PageRecord,
 ) -> Answered
     requires { ⌜ Sound (memory slots «by_key» «by_handle» marks) head ⌝ }
-    ensures { λ r. let m = memories slots «by_key» «by_handle» marks in ⌜ ((c : Cache) → Holds (m .entry) head c → Comes (step (insert upsert (key .0) (handle .0) page (length (now (list .entry)))) c) (now (list .entry)) (m .exit) (now (list .exit)) r) ⌝ }
+    ensures { λ r. let m = memories slots «by_key» «by_handle» marks in ⌜ ((c : Cache) → Holds (m .entry) head c → MatchesOutcome (step (insert upsert (key .0) (handle .0) page (length (now (list .entry)))) c) (now (list .entry)) (m .exit) (now (list .exit)) r) ⌝ }
 {
-    let asked = Request {
+    let asked = NewPage {
         key,
         handle,
         page,
-        form: Insertion::Upsert,
+        mode: InsertMode::Upsert,
     };
     insert_page(slots, by_key, by_handle, marks, list, head, asked)
 }
@@ -82,13 +82,13 @@ pub fn force_insert_page(
     page: PageRecord,
 ) -> Answered
     requires { ⌜ Sound (memory slots «by_key» «by_handle» marks) head ⌝ }
-    ensures { λ r. let m = memories slots «by_key» «by_handle» marks in ⌜ ((c : Cache) → Holds (m .entry) head c → Comes (step (insert forced (key .0) (handle .0) page (length (now (list .entry)))) c) (now (list .entry)) (m .exit) (now (list .exit)) r) ⌝ }
+    ensures { λ r. let m = memories slots «by_key» «by_handle» marks in ⌜ ((c : Cache) → Holds (m .entry) head c → MatchesOutcome (step (insert forced (key .0) (handle .0) page (length (now (list .entry)))) c) (now (list .entry)) (m .exit) (now (list .exit)) r) ⌝ }
 {
-    let asked = Request {
+    let asked = NewPage {
         key,
         handle,
         page,
-        form: Insertion::Forced,
+        mode: InsertMode::Forced,
     };
     insert_page(slots, by_key, by_handle, marks, list, head, asked)
 }
@@ -102,10 +102,10 @@ fn insert_page(
     marks: &mut [u64],
     list: &mut [u32],
     head: PageCache,
-    asked: Request,
+    asked: NewPage,
 ) -> Answered
     requires { ⌜ Sound (memory slots «by_key» «by_handle» marks) head ⌝ }
-    ensures { λ r. let m = memories slots «by_key» «by_handle» marks in ⌜ ((c : Cache) → Holds (m .entry) head c → Comes (step (insert (insertionOf (asked .form)) (asked .key .0) (asked .handle .0) (asked .page) (length (now (list .entry)))) c) (now (list .entry)) (m .exit) (now (list .exit)) r) ⌝ }
+    ensures { λ r. let m = memories slots «by_key» «by_handle» marks in ⌜ ((c : Cache) → Holds (m .entry) head c → MatchesOutcome (step (insert (insertionOf (asked .mode)) (asked .key .0) (asked .handle .0) (asked .page) (length (now (list .entry)))) c) (now (list .entry)) (m .exit) (now (list .exit)) r) ⌝ }
 {
     let flags = asked.page.flags;
     if PageRecord::ALL_FLAGS < flags {

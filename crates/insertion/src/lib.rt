@@ -12,14 +12,14 @@
 //     absent.rt    under an absent key (rules 5 and 7)
 //     stale.rt     under the key of a page that is neither loaded nor locked, which is deleted first (rule 6)
 //     present.rt   under the key of any other page (rule 6)
-//     form.rt      what an insertion is asked for, and what its form decides
+//     mode.rt      what an insertion is asked for, and what its mode decides
 //
 // The three calls ask for sound memory and leave it sound. Callers may rely on each being the model's step: its answer, the
 // pages passed, the handles listed and the cache that the memory holds afterwards.
 mod absent;
 mod by_key;
 mod calls;
-mod form;
+mod mode;
 mod present;
 mod stale;
 

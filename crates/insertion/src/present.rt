@@ -7,7 +7,7 @@
 // The slots and the index by handle have to be parts of a memory with a page at the slot, and the handle must stand under no other
 // key. Callers may rely on `present` being the model's rule: its answer, and the cache that the memory holds afterwards, whatever the
 // other parts are. Nothing is listed, and OtherPage leaves every word as it was.
-use crate::form::Request;
+use crate::mode::NewPage;
 use answer::Answer;
 use answer::Answered;
 use page::PageCache;
@@ -15,21 +15,21 @@ use page::Slot;
 ghost use Rattle.moves.specs.Moves.{Replaceable};
 ghost use Rattle.insertion.specs.Present.{Presents};
 
-// The page at slot s is touched, and then replaced if the form says so. Unless it is replaced, a page with another handle is
+// The page at slot s is touched, and then replaced if the mode says so. Unless it is replaced, a page with another handle is
 // not even touched.
 pub fn present(
     slots: &mut [u64],
     by_handle: &mut [u32],
     head: PageCache,
     s: Slot,
-    asked: Request,
+    asked: NewPage,
 ) -> Answered
     requires { ⌜ Replaceable (now slots) (now «by_handle») head (s .0) (asked .handle .0) (asked .page) ⌝ }
     ensures { λ r. ⌜ Presents (now (slots .entry)) (now («by_handle» .entry)) head (s .0) asked (now (slots .exit)) (now («by_handle» .exit)) r ⌝ }
 {
     let old = pool::load(slots, s).handle;
-    let form = asked.form;
-    if form.replaces() {
+    let mode = asked.mode;
+    if mode.replaces() {
         moves::touch_at(slots, s);
         let after = moves::replace_at(slots, by_handle, head, s, asked.handle, asked.page);
         return Answered::plain(Answer::Done(old.0), after);

@@ -6,13 +6,13 @@
 // stale page's handle and after it the evicted ones in the list, and the cache that the memory holds afterwards. A page that rule 8
 // keeps leaves every word as it was.
 use crate::absent::admit;
-use crate::form::Request;
+use crate::mode::NewPage;
 use answer::Answered;
 use deletion::Deletion;
 use page::PageCache;
 use page::Slot;
 ghost use Rattle.memory.specs.Memory.{memory, memories};
-ghost use Rattle.insertion.specs.Renew.{Found, InsertsStale};
+ghost use Rattle.insertion.specs.Renew.{KeyFound, InsertsStale};
 
 // The page at slot s is deleted and listed, and the new one goes on as under an absent key, with gaps of after the deletion; or rule 8
 // refuses.
@@ -24,9 +24,9 @@ pub fn insert_stale(
     list: &mut [u32],
     head: PageCache,
     s: Slot,
-    asked: Request,
+    asked: NewPage,
 ) -> Answered
-    requires { ⌜ Found (memory slots «by_key» «by_handle» marks) head (now list) (s .0) asked ⌝ }
+    requires { ⌜ KeyFound (memory slots «by_key» «by_handle» marks) head (now list) (s .0) asked ⌝ }
     ensures { λ r. let m = memories slots «by_key» «by_handle» marks in ⌜ InsertsStale (m .entry) head (now (list .entry)) (s .0) asked (m .exit) (now (list .exit)) r ⌝ }
 {
     match deletion::delete_page(slots, by_key, by_handle, marks, list, 0, head, s) {

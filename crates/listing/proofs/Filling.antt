@@ -13,7 +13,7 @@ use Rattle.ring_links.specs.Links.{nextAt}
 use Rattle.model.specs.Row.{Row}
 use Rattle.listing.specs.declared.listed.ListedPage.{ListedPage}
 use Rattle.listing.specs.declared.listed.RingPage.{RingPage}
-use Rattle.listing.specs.Listing.{pageOf, pagesOf, numbersOf, inNumbers, inRecords, ringPageAt, Stands, Lists}
+use Rattle.listing.specs.Listing.{pageOf, pagesOf, numbersOf, inNumbers, inRecords, ringPageAt, Stands, WritesRow}
 use Rattle.listing.proofs.Stores.{sets-append, sets-first}
 use Rattle.listing.proofs.Sweeping.{pagesFrom, Inside, stands-pages, stands-inside}
 
@@ -96,7 +96,7 @@ module _ {slots : List ℕ} {h n : ℕ} {before : List ℕ} {s i : ℕ} {list : 
   pub numbering-more : {p : RingPage} {list′ : List ℕ} → i < n → p ≡ ringPageAt (entries slots) s → list′ ≡ sets list (i * 8) (numbersOf (p .page)) → Numbering slots h n before (p .next .0) (i + 1) list′
   numbering-more more there stored = filling-more g (λ _. refl) more there stored
 
-  pub numbering-done : 8 * n ≤ length before → n ≤ i → Lists inNumbers slots h n before list
+  pub numbering-done : 8 * n ≤ length before → n ≤ i → WritesRow inNumbers slots h n before list
   numbering-done room done row stands count = record {
     list = filling-done g row (λ _. refl) (rw (mul-comm n 8) room) done stands count ∙ ap (λ (k : ℕ). flatMap numbersOf (pagesOf row) ++ drop k before) (mul-comm (length row) 8);
   }
@@ -114,5 +114,5 @@ module _ {slots : List ℕ} {h n : ℕ} {before : List ListedPage} {s i : ℕ} {
   pub recording-more : {p : RingPage} → i < n → p ≡ ringPageAt (entries slots) s → Recording slots h n before (p .next .0) (i + 1) (set list i (p .page))
   recording-more {p} more there = filling-more g (λ _. refl) more there (rw (mul-one i))
 
-  pub recording-done : n ≤ length before → n ≤ i → Lists inRecords slots h n before list
+  pub recording-done : n ≤ length before → n ≤ i → WritesRow inRecords slots h n before list
   recording-done room done row stands count = record { list = simp (mul-one, flat-single) at (filling-done g row (λ _. refl) (simp mul-one room) done stands count) }

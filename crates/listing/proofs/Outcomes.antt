@@ -14,18 +14,18 @@ use Rattle.listing.specs.declared.testing.Admission.{Admission}
 use Rattle.listing.specs.declared.testing.Listing.{Listing}
 use Rattle.listing.specs.declared.testing.Listing.the-variants.{Done, NotSound, ShortList}
 use Rattle.listing.specs.declared.listed.ListedPage.{ListedPage}
-use Rattle.listing.specs.Listing.{Form, inNumbers, inRecords, Listable, Filled, Lists}
-use Rattle.listing.specs.Outcome.{codeOf, valueOf, Verdict, all-listed, not-sound, too-short, Admits, Comes}
+use Rattle.listing.specs.Listing.{Form, inNumbers, inRecords, CanListRow, RowWritten, WritesRow}
+use Rattle.listing.specs.Outcome.{codeOf, valueOf, Verdict, all-listed, not-sound, too-short, Admits, ListingEffect}
 use Rattle.listing.proofs.Sweeping.{row-stands}
 
 -- ── a cache ──────────────────────────────────────────────────────────────────
 module _ {A : Type 0} (F : Form A) {m : Memory} {head : PageCache} {c : Cache} (g : Holds m head c) where
   -- its pages may be listed, from the hand on
-  pub cache-listable : {list : List A} → F .places (head .held) ≤ length list → Listable F (m .slots) (head .hand .0) (head .held) list
+  pub cache-listable : {list : List A} → F .places (head .held) ≤ length list → CanListRow F (m .slots) (head .hand .0) (head .held) list
   cache-listable room = record { row = c .row; stands = row-stands g; count = holds-held g; room = room }
 
   -- and then its row is listed
-  pub cache-listed : {before after : List A} → Lists F (m .slots) (head .hand .0) (head .held) before after → Filled F (c .row) before after
+  pub cache-listed : {before after : List A} → WritesRow F (m .slots) (head .hand .0) (head .held) before after → RowWritten F (c .row) before after
   cache-listed lists = lists (c .row) (row-stands g) (holds-held g)
 
 -- ── from the verdict to the answer ───────────────────────────────────────────
@@ -45,19 +45,19 @@ records-fit list = record { empty = refl; none = refl; enough = λ n le. le; sho
 
 module _ {A : Type 0} {F : Form A} {m : Memory} {head : PageCache} {space : ℕ} {list : List A} {p : Admission} (fits : Fits F space list) (g : Admits m head space p) where
   -- as many pages as the verdict says may be listed
-  pub admitted : Listable F (m .slots) (head .hand .0) (p .count) list
+  pub admitted : CanListRow F (m .slots) (head .hand .0) (p .count) list
   admitted = by-verdict (g .verdict) (g .count)
     where
-      none-listable : p .count ≡ 0 → Listable F (m .slots) (head .hand .0) (p .count) list
+      none-listable : p .count ≡ 0 → CanListRow F (m .slots) (head .hand .0) (p .count) list
       none-listable e = record { row = []; stands = tt; count = sym e; room = rw (e, fits .none) (omega arith) }
 
-      by-verdict : {code n : ℕ} → Verdict m head (head .held) space code n → p .count ≡ n → Listable F (m .slots) (head .hand .0) (p .count) list
+      by-verdict : {code n : ℕ} → Verdict m head (head .held) space code n → p .count ≡ n → CanListRow F (m .slots) (head .hand .0) (p .count) list
       by-verdict (all-listed v) e = rw (e ∙ v .count) (cache-listable F (v .sound .holds) (fits .enough (head .held) (v .room)))
       by-verdict (not-sound v) e = none-listable e
       by-verdict (too-short v) e = none-listable e
 
   -- and then the call has come to its answer
-  pub comes : {after : List A} → Lists F (m .slots) (head .hand .0) (p .count) list after → Comes F m head list after (p .answer)
+  pub comes : {after : List A} → WritesRow F (m .slots) (head .hand .0) (p .count) list after → ListingEffect F m head list after (p .answer)
   comes {after} lists = record { verdict = in-places (g .verdict); refused = unaltered (g .verdict) (g .count); done = filled (g .verdict) (g .count) }
     where
       in-places : {code n : ℕ} → Verdict m head (head .held) space code n → Verdict m head (F .places (head .held)) (length list) code n
@@ -73,7 +73,7 @@ module _ {A : Type 0} {F : Form A} {m : Memory} {head : PageCache} {space : ℕ}
       unaltered (not-sound v) e other = none-listed e
       unaltered (too-short v) e other = none-listed e
 
-      filled : {code n : ℕ} → Verdict m head (head .held) space code n → p .count ≡ n → code ≡ 0 → (c : Cache) → Holds m head c → Filled F (c .row) list after
+      filled : {code n : ℕ} → Verdict m head (head .held) space code n → p .count ≡ n → code ≡ 0 → (c : Cache) → Holds m head c → RowWritten F (c .row) list after
       filled (all-listed v) e is c holds = cache-listed F holds (rw (e ∙ v .count) at lists)
       filled (not-sound v) e is c holds = absurd (omega (arith, is))
       filled (too-short v) e is c holds = absurd (omega (arith, is))
@@ -110,15 +110,15 @@ pub record Same {A : Type 0} (a : Listing) (after : List A) (a′ : Listing) (af
 
 -- the contract is deterministic
 pub comes-once : {A : Type 0} {F : Form A} {m : Memory} {head : PageCache} {before after after′ : List A} {a a′ : Listing}
-    → Comes F m head before after a → Comes F m head before after′ a′ → Same a after a′ after′
+    → ListingEffect F m head before after a → ListingEffect F m head before after′ a′ → Same a after a′ after′
 comes-once {F = F} {m = m} {head = head} {before = before} {after = after} {after′ = after′} {a = a} {a′ = a′} g g′ =
     let once : (codeOf a ≡ codeOf a′) × (valueOf a ≡ valueOf a′) = verdict-once (g .verdict) (g′ .verdict) in
     let e : a ≡ a′ = answer-told a a′ (once .0) (once .1) in
     record { answer = e; list = by-verdict (g .verdict) (g .refused) (g .done) (rw e (g′ .refused)) (rw e (g′ .done)) }
   where
     by-verdict : {code n : ℕ} → Verdict m head (F .places (head .held)) (length before) code n
-        → ((code ≡ 0 → ⊥) → after ≡ before) → (code ≡ 0 → (c : Cache) → Holds m head c → Filled F (c .row) before after)
-        → ((code ≡ 0 → ⊥) → after′ ≡ before) → (code ≡ 0 → (c : Cache) → Holds m head c → Filled F (c .row) before after′)
+        → ((code ≡ 0 → ⊥) → after ≡ before) → (code ≡ 0 → (c : Cache) → Holds m head c → RowWritten F (c .row) before after)
+        → ((code ≡ 0 → ⊥) → after′ ≡ before) → (code ≡ 0 → (c : Cache) → Holds m head c → RowWritten F (c .row) before after′)
         → after ≡ after′
     by-verdict (all-listed v) r d r′ d′ = d refl (v .sound .cache) (v .sound .holds) .list ∙ sym (d′ refl (v .sound .cache) (v .sound .holds) .list)
     by-verdict (not-sound v) r d r′ d′ = r (λ z. absurd (omega arith)) ∙ sym (r′ (λ z. absurd (omega arith)))

@@ -52,16 +52,16 @@ Stands es s (e ∷ row) = (s < length es) × ((e ≡ seen s (getD es s blank)) �
 -- ── contracts ────────────────────────────────────────────────────────────────
 module _ {A : Type 0} (F : Form A) where
   -- a row of n pages stands in the slots from s on, and the list has places for it
-  pub record Listable (slots : List ℕ) (s n : ℕ) (list : List A) : Type 0 where
+  pub record CanListRow (slots : List ℕ) (s n : ℕ) (list : List A) : Type 0 where
     pub row : Row
     pub stands : Stands (entries slots) s row
     pub count : length row ≡ n
     pub room : F .places n ≤ length list
 
   -- the row is written to the first places of the list; places past it keep their values
-  pub record Filled (row : Row) (before after : List A) : Type 0 where
+  pub record RowWritten (row : Row) (before after : List A) : Type 0 where
     pub list : after ≡ F .written row ++ drop (F .places (length row)) before
 
   -- the row of n pages that stands in the slots from s on is listed
-  abbrev pub Lists : (slots : List ℕ) (s n : ℕ) (before after : List A) → Type 0
-  Lists slots s n before after = (row : Row) → Stands (entries slots) s row → length row ≡ n → Filled row before after
+  abbrev pub WritesRow : (slots : List ℕ) (s n : ℕ) (before after : List A) → Type 0
+  WritesRow slots s n before after = (row : Row) → Stands (entries slots) s row → length row ≡ n → RowWritten row before after

@@ -10,7 +10,7 @@ use Rattle.memory.specs.Holds.{Holds, Sound}
 use Rattle.listing.specs.declared.testing.Admission.{Admission}
 use Rattle.listing.specs.declared.testing.Listing.{Listing}
 use Rattle.listing.specs.declared.testing.Listing.the-variants.{Done, NotSound, ShortList}
-use Rattle.listing.specs.Listing.{Form, Filled}
+use Rattle.listing.specs.Listing.{Form, RowWritten}
 
 -- 01's answer codes
 abbrev pub codeOf : Listing → ℕ
@@ -47,9 +47,9 @@ pub record Admits (m : Memory) (head : PageCache) (space : ℕ) (a : Admission) 
   pub count : a .count ≡ valueOf (a .answer)
 
 -- what came of a call: the list was `before` and is `after`. The memory is lent to be read, and stays as it is
-pub record Comes {A : Type 0} (F : Form A) (m : Memory) (head : PageCache) (before after : List A) (answer : Listing) : Type 0 where
+pub record ListingEffect {A : Type 0} (F : Form A) (m : Memory) (head : PageCache) (before after : List A) (answer : Listing) : Type 0 where
   pub verdict : Verdict m head (F .places (head .held)) (length before) (codeOf answer) (valueOf answer)
   -- a refusal alters nothing
   pub refused : (codeOf answer ≡ 0 → ⊥) → after ≡ before
   -- the row of the cache that the memory holds is listed
-  pub done : codeOf answer ≡ 0 → (c : Cache) → Holds m head c → Filled F (c .row) before after
+  pub done : codeOf answer ≡ 0 → (c : Cache) → Holds m head c → RowWritten F (c .row) before after

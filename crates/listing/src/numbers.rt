@@ -10,8 +10,8 @@ ghost use Prim.Native.Nat.{_+_, _≤_};
 ghost use lib.ListN.{length};
 ghost use lib.Seq.{sets};
 ghost use Rattle.memory.specs.Memory.{memories};
-ghost use Rattle.listing.specs.Listing.{inNumbers, numbersOf, Listable, Lists};
-ghost use Rattle.listing.specs.Outcome.{Comes};
+ghost use Rattle.listing.specs.Listing.{inNumbers, numbersOf, CanListRow, WritesRow};
+ghost use Rattle.listing.specs.Outcome.{ListingEffect};
 
 // Writes the page's numbers to the eight places from `at`.
 fn put_page(list: &mut [u64], at: usize, p: ListedPage)
@@ -29,10 +29,10 @@ fn put_page(list: &mut [u64], at: usize, p: ListedPage)
     list[at + 7] = p.uses as u64;
 }
 
-// Lists `count` pages of the ring, from slot `hand` on.
+// WritesRow `count` pages of the ring, from slot `hand` on.
 pub fn list_pool(slots: &[u64], hand: Slot, count: usize, list: &mut [u64])
-    requires { ⌜ Listable inNumbers (now slots) (hand .0) count (now list) ⌝ }
-    ensures { λ _. ⌜ Lists inNumbers (now (slots .entry)) (hand .0) count (now (list .entry)) (now (list .exit)) ⌝ }
+    requires { ⌜ CanListRow inNumbers (now slots) (hand .0) count (now list) ⌝ }
+    ensures { λ _. ⌜ WritesRow inNumbers (now (slots .entry)) (hand .0) count (now (list .entry)) (now (list .exit)) ⌝ }
 {
     let mut s = hand;
     let mut i: usize = 0;
@@ -45,7 +45,7 @@ pub fn list_pool(slots: &[u64], hand: Slot, count: usize, list: &mut [u64])
     }
 }
 
-// Lists all held pages of any memory, or refuses and alters nothing.
+// WritesRow all held pages of any memory, or refuses and alters nothing.
 pub fn list_numbers(
     slots: &[u64],
     by_key: &[u32],
@@ -54,7 +54,7 @@ pub fn list_numbers(
     head: PageCache,
     list: &mut [u64],
 ) -> Listing
-    ensures { λ r. let m = memories slots «by_key» «by_handle» marks in ⌜ Comes inNumbers (m .entry) head (now (list .entry)) (now (list .exit)) r ⌝ }
+    ensures { λ r. let m = memories slots «by_key» «by_handle» marks in ⌜ ListingEffect inNumbers (m .entry) head (now (list .entry)) (now (list .exit)) r ⌝ }
 {
     let admission = admit(slots, by_key, by_handle, marks, head, list.len() / 8);
     list_pool(slots, head.hand, admission.count, list);

@@ -8,13 +8,13 @@ use crate::testing::admit;
 use page::PageCache;
 use page::Slot;
 ghost use Rattle.memory.specs.Memory.{memories};
-ghost use Rattle.listing.specs.Listing.{inRecords, Listable, Lists};
-ghost use Rattle.listing.specs.Outcome.{Comes};
+ghost use Rattle.listing.specs.Listing.{inRecords, CanListRow, WritesRow};
+ghost use Rattle.listing.specs.Outcome.{ListingEffect};
 
-// Lists `count` pages of the ring, from slot `hand` on.
+// WritesRow `count` pages of the ring, from slot `hand` on.
 pub fn list_records(slots: &[u64], hand: Slot, count: usize, list: &mut [ListedPage])
-    requires { ⌜ Listable inRecords (now slots) (hand .0) count (now list) ⌝ }
-    ensures { λ _. ⌜ Lists inRecords (now (slots .entry)) (hand .0) count (now (list .entry)) (now (list .exit)) ⌝ }
+    requires { ⌜ CanListRow inRecords (now slots) (hand .0) count (now list) ⌝ }
+    ensures { λ _. ⌜ WritesRow inRecords (now (slots .entry)) (hand .0) count (now (list .entry)) (now (list .exit)) ⌝ }
 {
     let mut s = hand;
     let mut i: usize = 0;
@@ -26,7 +26,7 @@ pub fn list_records(slots: &[u64], hand: Slot, count: usize, list: &mut [ListedP
     }
 }
 
-// Lists all held pages of any memory, or refuses and alters nothing.
+// WritesRow all held pages of any memory, or refuses and alters nothing.
 pub fn list_pages(
     slots: &[u64],
     by_key: &[u32],
@@ -35,7 +35,7 @@ pub fn list_pages(
     head: PageCache,
     list: &mut [ListedPage],
 ) -> Listing
-    ensures { λ r. let m = memories slots «by_key» «by_handle» marks in ⌜ Comes inRecords (m .entry) head (now (list .entry)) (now (list .exit)) r ⌝ }
+    ensures { λ r. let m = memories slots «by_key» «by_handle» marks in ⌜ ListingEffect inRecords (m .entry) head (now (list .entry)) (now (list .exit)) r ⌝ }
 {
     let admission = admit(slots, by_key, by_handle, marks, head, list.len());
     list_records(slots, head.hand, admission.count, list);

@@ -16,7 +16,7 @@ use Rattle.model.specs.Rules.{deleting, hit, lookupFound, peekFound}
 use Rattle.model.specs.Step.{act, step}
 use Rattle.memory.specs.Memory.{Memory}
 use Rattle.memory.specs.Holds.{Holds}
-use Rattle.answer.specs.Answer.{plainly, Follows, Comes}
+use Rattle.answer.specs.Answer.{plainly, Follows, MatchesOutcome}
 use Rattle.answer.specs.declared.answer.Answer.the-variants.{Done, ShortList, Absent}
 use Rattle.answer.specs.declared.answered.Answered.{Answered}
 use Rattle.answer.proofs.Steps.{step-acts, step-short-list, list-short, list-long, follows-as, comes-as, plain-follows, plain-comes, touching-follows, touching-comes}
@@ -47,25 +47,25 @@ found-fresh key e c is = rw (is, lookupFound)
 
 module _ {m : Memory} {head : PageCache} {c : Cache} (H : Holds m head c) (key : ℕ) where
   -- ── get ────────────────────────────────────────────────────────────────────
-  pub lookup-short : {list : List ℕ} → length list < head .held → Comes (step (lookup key (length list)) c) list m list (plainly ShortList head)
+  pub lookup-short : {list : List ℕ} → length list < head .held → MatchesOutcome (step (lookup key (length list)) c) list m list (plainly ShortList head)
   lookup-short {list} short = comes-as (step-short-list (lookup key (length list)) refl refl (list-short H short)) (plain-comes ShortList H list)
 
   module _ {list : List ℕ} (long : head .held ≤ length list) where
-    pub lookup-absent : find key (c .row) ≡ none → Comes (step (lookup key (length list)) c) list m list (plainly Absent head)
+    pub lookup-absent : find key (c .row) ≡ none → MatchesOutcome (step (lookup key (length list)) c) list m list (plainly Absent head)
     lookup-absent absent = comes-as (lookup-found key c absent H long) (plain-comes Absent H list)
 
     module _ {s : ℕ} {e : Entry} (at : StandsAt (c .row) key s e) {m′ : Memory} {stored : PageCacheEntry}
         (loaded : stored ≡ getD (entries (m .slots)) s blank) where
-      pub lookup-stale : {list′ : List ℕ} {r : Answered} → stale (stored .page) ≡ true → Comes (deleting (e .page) (answer 4 0) c) list m′ list′ r
-          → Comes (step (lookup key (length list)) c) list m′ list′ r
+      pub lookup-stale : {list′ : List ℕ} {r : Answered} → stale (stored .page) ≡ true → MatchesOutcome (deleting (e .page) (answer 4 0) c) list m′ list′ r
+          → MatchesOutcome (step (lookup key (length list)) c) list m′ list′ r
       lookup-stale is comes =
           comes-as (lookup-found key c (at .found) H long ∙ found-stale key e c (ap (λ (x : Entry). stale (x .page .state)) (sym (stored-is H at loaded)) ∙ is)) comes
 
       pub lookup-hit : stale (stored .page) ≡ false → Holds m′ head (touch key c)
-          → Comes (step (lookup key (length list)) c) list m′ list (plainly (Done (stored .handle .0)) head)
+          → MatchesOutcome (step (lookup key (length list)) c) list m′ list (plainly (Done (stored .handle .0)) head)
       lookup-hit is touched =
           comes-as (lookup-found key c (at .found) H long ∙ found-fresh key e c (ap (λ (x : Entry). stale (x .page .state)) (sym (stored-is H at loaded)) ∙ is))
-          (subst (λ (x : Entry). Comes (hit key (x .page) c) list m′ list (plainly (Done (stored .handle .0)) head)) (stored-is H at loaded)
+          (subst (λ (x : Entry). MatchesOutcome (hit key (x .page) c) list m′ list (plainly (Done (stored .handle .0)) head)) (stored-is H at loaded)
           (touching-comes (plain-comes (Done (stored .handle .0)) touched list)))
 
   -- ── peek ───────────────────────────────────────────────────────────────────

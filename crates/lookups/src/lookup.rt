@@ -11,7 +11,7 @@ ghost use Rattle.model.specs.Call.{lookup, peek};
 ghost use Rattle.model.specs.Step.{step};
 ghost use Rattle.memory.specs.Memory.{memory, memories};
 ghost use Rattle.memory.specs.Holds.{Holds, Sound};
-ghost use Rattle.answer.specs.Answer.{Comes};
+ghost use Rattle.answer.specs.Answer.{MatchesOutcome};
 ghost use Rattle.answer.specs.Parts.{SoundParts, FollowsStep};
 
 // The handle of the page under the key, which is touched. A read that was given up leaves a page neither loaded nor locked:
@@ -26,7 +26,7 @@ pub fn get(
     key: PageCacheKey,
 ) -> Answered
     requires { ⌜ Sound (memory slots «by_key» «by_handle» marks) head ⌝ }
-    ensures { λ r. let m = memories slots «by_key» «by_handle» marks in ⌜ ((c : Cache) → Holds (m .entry) head c → Comes (step (lookup (key .0) (length (now (list .entry)))) c) (now (list .entry)) (m .exit) (now (list .exit)) r) ⌝ }
+    ensures { λ r. let m = memories slots «by_key» «by_handle» marks in ⌜ ((c : Cache) → Holds (m .entry) head c → MatchesOutcome (step (lookup (key .0) (length (now (list .entry)))) c) (now (list .entry)) (m .exit) (now (list .exit)) r) ⌝ }
 {
     if list.len() < head.held as usize {
         return Answered::plain(Answer::ShortList, head);

@@ -10,9 +10,9 @@ use Rattle.pool.specs.Slots.{blank}
 use Rattle.ring_links.specs.Ring.{Out}
 use Rattle.ring_links.specs.Links.{withLinks, linkedFirst, linkedAfter, unlinked}
 use Rattle.ring_links.proofs.Columns.{Linkless, map-set, column-at, column-first, column-after, column-unlinked}
-use Rattle.order.specs.Names.{nameOf, names}
-use Rattle.order.specs.declared.search.By.{By}
-use Rattle.order.specs.declared.search.By.the-variants.{Key, Handle}
+use Rattle.sorted_index.specs.Names.{nameOf, names}
+use Rattle.sorted_index.specs.declared.search.By.{By}
+use Rattle.sorted_index.specs.declared.search.By.the-variants.{Key, Handle}
 use Rattle.model.specs.Row.{Entry, Row}
 use Rattle.memory.specs.Holds.{seen, rowOf}
 

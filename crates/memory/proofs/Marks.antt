@@ -14,7 +14,7 @@ use Rattle.ring_links.specs.Ring.{has, Out}
 use Rattle.pool.specs.Slots.{blank}
 use Rattle.free_marks.specs.Marks.{bitAt, MarkedAs, SomeFree, LowestFree}
 use Rattle.free_marks.proofs.Marking.{clash}
-use Rattle.order.proofs.Membership.{has-here, has-skip, has-out, out-has, has-mid}
+use Rattle.sorted_index.proofs.Membership.{has-here, has-skip, has-out, out-has, has-mid}
 use Rattle.model.specs.Cache.{slotTaken, lowestFree}
 use Rattle.model.proofs.KeptSlots.{lowest-bound, lowest-lower, lowest-free}
 use Rattle.memory.specs.Holds.{seen, rowOf, Marked}

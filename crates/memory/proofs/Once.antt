@@ -17,11 +17,11 @@ use Rattle.pool.specs.Slots.{entries}
 use Rattle.free_marks.proofs.Marking.{marks-once}
 use Rattle.pool.proofs.Packing.{entries-whole, words-once}
 use Rattle.ring_links.proofs.Rows.{round-only}
-use Rattle.order.specs.Listed.{Listed}
-use Rattle.order.specs.Names.{names}
-use Rattle.order.specs.declared.search.By.{By}
-use Rattle.order.specs.declared.search.By.the-variants.{Key, Handle}
-use Rattle.order.proofs.Once.{listed-once}
+use Rattle.sorted_index.specs.Listed.{Listed}
+use Rattle.sorted_index.specs.Names.{names}
+use Rattle.sorted_index.specs.declared.search.By.{By}
+use Rattle.sorted_index.specs.declared.search.By.the-variants.{Key, Handle}
+use Rattle.sorted_index.proofs.Once.{listed-once}
 use Rattle.model.specs.Cache.{Cache}
 use Rattle.model.specs.Row.{Entry, Row}
 use Rattle.memory.specs.Memory.{Memory}

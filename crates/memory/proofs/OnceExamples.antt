@@ -62,7 +62,7 @@ zero-empty = record {
   handles = record { index = record { fits = omega arith; asc = tt; clear = (refl, tt) }; same = λ k. refl };
   marked = record { inside = first; beyond = one-bit };
   headed = record { held = refl; hand = refl; capacity = refl; spill = refl; estimate = refl };
-  limits = record { some = omega arith; most = omega arith; capacity = omega arith; fine = tt };
+  limits = record { some = omega arith; most = omega arith; capacity = omega arith; good = tt };
 }
   where
     first : (k : ℕ) → k < 1 → bitAt (1 ∷ []) k ≡ 1
@@ -103,7 +103,7 @@ zero-page = record {
     some = omega arith;
     most = omega arith;
     capacity = omega arith;
-    fine = (record { flags = omega arith; uses = omega arith }, tt);
+    good = (record { flags = omega arith; uses = omega arith }, tt);
   };
 }
   where

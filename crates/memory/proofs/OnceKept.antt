@@ -15,26 +15,26 @@ use Rattle.ring_links.specs.Ring.{has, Out, Below}
 use Rattle.ring_links.specs.Ring as ring
 use Rattle.pool.specs.Slots.{decode, blank, entries}
 use Rattle.pool.proofs.Packing.{entries-at, entries-whole}
-use Rattle.order.specs.Listed.{Listed}
-use Rattle.order.specs.Names.{nameOf, names}
-use Rattle.order.specs.declared.search.By.{By}
-use Rattle.order.specs.declared.search.By.the-variants.{Key, Handle}
-use Rattle.order.proofs.Listed.{listed-names}
-use Rattle.order.proofs.Membership.{has-here, has-there}
-use Rattle.order.proofs.Names.{name-at}
+use Rattle.sorted_index.specs.Listed.{Listed}
+use Rattle.sorted_index.specs.Names.{nameOf, names}
+use Rattle.sorted_index.specs.declared.search.By.{By}
+use Rattle.sorted_index.specs.declared.search.By.the-variants.{Key, Handle}
+use Rattle.sorted_index.proofs.Listed.{listed-names}
+use Rattle.sorted_index.proofs.Membership.{has-here, has-there}
+use Rattle.sorted_index.proofs.Names.{name-at}
 use Rattle.model.specs.Cache.{Cache, heldIn}
 use Rattle.model.specs.Demand.{Limited}
-use Rattle.model.specs.Limits.{Apart, Fit, Good, Kept}
+use Rattle.model.specs.Limits.{Apart, RecordInRange, EntryInRange, CacheInvariant}
 use Rattle.model.specs.Row.{Page, Each}
 use Rattle.memory.specs.Memory.{Memory}
-use Rattle.memory.specs.Holds.{seen, rowOf, Fine, Holds}
+use Rattle.memory.specs.Holds.{seen, rowOf, EntryGood, Holds}
 
 -- ── the fields of an entry ───────────────────────────────────────────────────
 -- they fit their places in words of 64 bits
 record Packed (e : PageCacheEntry) : Type 0 where
   key : e .key .0 < 2 ^ 32
   handle : e .handle .0 < 2 ^ 32
-  fit : Fit (e .page)
+  fit : RecordInRange (e .page)
 
 decode-packed : (names links counts frame : ℕ) → names < 2 ^ 64 → counts < 2 ^ 64 → frame < 2 ^ 64 → Packed (decode names links counts frame)
 unfolding decode
@@ -76,19 +76,19 @@ name-tells by es l j k g h e = listed-names l refl j k g h (name-at by es j ∙ 
 
 -- ── the entries of a row ─────────────────────────────────────────────────────
 row-good : (es : List PageCacheEntry) (size : ℕ) (seats : List ℕ) → ((k : ℕ) → k < size → Packed (getD es k blank)) → Below size seats
-    → Each Fine (rowOf es seats) → Each (Good size) (rowOf es seats)
-row-good es size [] packed below fine = tt
-row-good es size (s ∷ seats) packed below fine =
+    → Each EntryGood (rowOf es seats) → Each (EntryInRange size) (rowOf es seats)
+row-good es size [] packed below good = tt
+row-good es size (s ∷ seats) packed below good =
     let p = packed s (below .0) in (
       record {
         slot = below .0;
         key = p .key;
         handle = p .handle;
-        flags = fine .0 .flags;
+        flags = good .0 .flags;
         fit = p .fit;
-        uses = fine .0 .uses;
+        uses = good .0 .uses;
       },
-      row-good es size seats packed (below .1) (fine .1),
+      row-good es size seats packed (below .1) (good .1),
     )
 
 -- ── what is held ─────────────────────────────────────────────────────────────
@@ -103,7 +103,7 @@ module _ {m : Memory} {head : PageCache} {c : Cache} (g : Holds m head c) where
 
   -- use counts are 0 to 3
   pub holds-limited : Each Limited (c .row)
-  holds-limited = each-weaken Fine Limited (λ e f. f .uses) (c .row) (g .limits .fine)
+  holds-limited = each-weaken EntryGood Limited (λ e f. f .uses) (c .row) (g .limits .good)
 
   -- the ring comes to no slot twice
   pub holds-slots-apart : Apart (λ p. p .slot) (c .row)
@@ -120,16 +120,16 @@ module _ {m : Memory} {head : PageCache} {c : Cache} (g : Holds m head c) where
       (row-apart (λ p. p .handle) (entries (m .slots)) (g .seats) (g .seated .ring .apart) (name-tells Handle (entries (m .slots)) (g .handles)))
 
 -- each page is within its limits
-pub holds-good : {m : Memory} {head : PageCache} {c : Cache} → Wide (m .slots) → Holds m head c → Each (Good (c .size)) (c .row)
+pub holds-good : {m : Memory} {head : PageCache} {c : Cache} → Wide (m .slots) → Holds m head c → Each (EntryInRange (c .size)) (c .row)
 holds-good {m} {c = c} wide g =
     let es : List PageCacheEntry = entries (m .slots) in
     let long : length es ≡ c .size = entries-whole (c .size) (m .slots) (g .lengths .slots) in
     rw (g .row)
     (row-good es (c .size) (g .seats) (λ k h. entry-packed (m .slots) wide k (omega arith))
-    (subst (λ (n : ℕ). Below n (g .seats)) (length-map es _ ∙ long) (g .seated .ring .inside)) (rw (g .row) at (g .limits .fine)))
+    (subst (λ (n : ℕ). Below n (g .seats)) (length-map es _ ∙ long) (g .seated .ring .inside)) (rw (g .row) at (g .limits .good)))
 
 -- with an estimate of 32 bits, as it is in every head
-pub holds-kept : {m : Memory} {head : PageCache} {c : Cache} → Wide (m .slots) → Holds m head c → head .estimate < 2 ^ 32 → Kept c
+pub holds-kept : {m : Memory} {head : PageCache} {c : Cache} → Wide (m .slots) → Holds m head c → head .estimate < 2 ^ 32 → CacheInvariant c
 holds-kept wide g estimate = record {
   held = holds-fits g;
   capacity = g .limits .capacity;

@@ -21,5 +21,5 @@ reheaded H capacity spill estimate within headed = record {
   handles = H .handles;
   marked = H .marked;
   headed = headed;
-  limits = record { some = H .limits .some; most = H .limits .most; capacity = within; fine = H .limits .fine };
+  limits = record { some = H .limits .some; most = H .limits .most; capacity = within; good = H .limits .good };
 }

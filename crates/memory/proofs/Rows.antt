@@ -8,7 +8,7 @@ use lib.ListN.{getD}
 use Rattle.page.specs.declared.entry.PageCacheEntry.{PageCacheEntry}
 use Rattle.pool.specs.Slots.{blank}
 use Rattle.ring_links.specs.Ring.{has}
-use Rattle.order.proofs.Membership.{has-here, has-there, has-cons}
+use Rattle.sorted_index.proofs.Membership.{has-here, has-there, has-cons}
 use Rattle.model.specs.Row.{Entry, Each}
 use Rattle.memory.specs.Holds.{seen, rowOf}
 

@@ -13,7 +13,7 @@ use Rattle.pool.specs.Slots.{blank}
 use Rattle.ring_links.specs.Ring.{has, Out}
 use Rattle.ring_links.specs.Links.{nexts, prevs, RingOf, linkedFirst, linkedAfter, unlinked}
 use Rattle.ring_links.proofs.Columns.{kept, next-at, prev-at, ring-first, ring-after, ring-unlinked}
-use Rattle.order.proofs.Membership.{has-out, out-has, has-mid}
+use Rattle.sorted_index.proofs.Membership.{has-out, out-has, has-mid}
 use Rattle.memory.specs.Holds.{Seated}
 use Rattle.memory.proofs.Columns.{bare, Written, bare-here, bare-else, written-store, written-first, written-after, written-unlinked}
 

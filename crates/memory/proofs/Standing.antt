@@ -16,17 +16,17 @@ use Rattle.ring_links.specs.Links.{RingOf}
 use Rattle.ring_links.proofs.Rings as rings
 use Rattle.ring_links.proofs.Rows.{Stands as SlotStands, stands as slot-stands}
 use Rattle.pool.proofs.Packing.{entries-whole}
-use Rattle.order.specs.Names.{names}
-use Rattle.order.specs.Index.{Index}
-use Rattle.order.specs.declared.search.By.the-variants.{Key, Handle}
-use Rattle.order.proofs.Membership.{mid-has, apart-mid}
-use Rattle.order.proofs.Listed.{listed-index}
+use Rattle.sorted_index.specs.Names.{names}
+use Rattle.sorted_index.specs.Index.{Index}
+use Rattle.sorted_index.specs.declared.search.By.the-variants.{Key, Handle}
+use Rattle.sorted_index.proofs.Membership.{mid-has, apart-mid}
+use Rattle.sorted_index.proofs.Listed.{listed-index}
 use Rattle.model.specs.Cache.{Cache}
 use Rattle.model.specs.Row.{Entry, Row, Each, find, change, without}
 use Rattle.model.specs.Limits.{Apart}
 use Rattle.model.proofs.ByKey.{Stands, find-stands, stands-find, stands-without, stands-change, apart-stands}
 use Rattle.memory.specs.Memory.{Memory}
-use Rattle.memory.specs.Holds.{seen, rowOf, Seated, Fine, Holds}
+use Rattle.memory.specs.Holds.{seen, rowOf, Seated, EntryGood, Holds}
 use Rattle.memory.proofs.Columns.{row-append}
 use Rattle.memory.proofs.OnceKept.{holds-keys-apart}
 use Rattle.memory.proofs.Seats.{in-out}
@@ -167,5 +167,5 @@ module _ {m : Memory} {head : PageCache} {c : Cache} (H : Holds m head c) where
     pub found-alone : Out s (holds-standing .front ++ holds-standing .back)
     found-alone = apart-mid s (holds-standing .front) (holds-standing .back) (found-seated .ring .apart)
 
-    pub found-fine : Fine e
-    found-fine = each-found Fine key (c .row) e found (H .limits .fine)
+    pub found-good : EntryGood e
+    found-good = each-found EntryGood key (c .row) e found (H .limits .good)

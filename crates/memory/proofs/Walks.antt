@@ -17,15 +17,15 @@ use Rattle.page.specs.declared.entry.PageCacheEntry.{PageCacheEntry}
 use Rattle.ring_links.specs.Ring.{has, Out, Below}
 use Rattle.ring_links.specs.Ring as ring
 use Rattle.pool.specs.Slots.{blank, entries}
-use Rattle.order.specs.Index.{Asc, nameAt, insertAt}
-use Rattle.order.specs.Names.{names}
-use Rattle.order.specs.declared.search.By.the-variants.{Key}
-use Rattle.order.proofs.Ascending.{ascending, asc-insert}
-use Rattle.order.proofs.Listed.{listed-index, listed-names}
-use Rattle.order.proofs.Lists.{all-at}
-use Rattle.order.proofs.Membership.{has-here, has-there, has-out, has-mid}
-use Rattle.order.proofs.Names.{name-at, names-length}
-use Rattle.order.proofs.Once.{asc-once}
+use Rattle.sorted_index.specs.Index.{Asc, nameAt, insertAt}
+use Rattle.sorted_index.specs.Names.{names}
+use Rattle.sorted_index.specs.declared.search.By.the-variants.{Key}
+use Rattle.sorted_index.proofs.Ascending.{ascending, asc-insert}
+use Rattle.sorted_index.proofs.Listed.{listed-index, listed-names}
+use Rattle.sorted_index.proofs.Lists.{all-at}
+use Rattle.sorted_index.proofs.Membership.{has-here, has-there, has-out, has-mid}
+use Rattle.sorted_index.proofs.Names.{name-at, names-length}
+use Rattle.sorted_index.proofs.Once.{asc-once}
 use Rattle.model.specs.Cache.{Cache}
 use Rattle.model.specs.Row.{Page, Entry, Row, sortIn, byKey, those}
 use Rattle.memory.specs.Memory.{Memory}
@@ -106,10 +106,10 @@ module _ (es : List PageCacheEntry) where
     row : byKey (rowOf es seats) ≡ rowOf es order
 
   -- seats with the same key are the same seat
-  abbrev Tells : List ℕ → Type 0
-  Tells seats = (j k : ℕ) → has j seats ≡ true → has k seats ≡ true → getD keys j 0 ≡ getD keys k 0 → j ≡ k
+  abbrev DistinctKeys : List ℕ → Type 0
+  DistinctKeys seats = (j k : ℕ) → has j seats ≡ true → has k seats ≡ true → getD keys j 0 ≡ getD keys k 0 → j ≡ k
 
-  sorted-more : (s : ℕ) (seats : List ℕ) → Out s seats → s < length keys → Tells (s ∷ seats) → Sorted seats → Sorted (s ∷ seats)
+  sorted-more : (s : ℕ) (seats : List ℕ) → Out s seats → s < length keys → DistinctKeys (s ∷ seats) → Sorted seats → Sorted (s ∷ seats)
   unfolding byKey
   sorted-more s seats out inside tells r = record {
     order = insertAt (r .order) (into .at) s;
@@ -129,7 +129,7 @@ module _ (es : List PageCacheEntry) where
       into : SortedIn s (r .order)
       into = sorted-in s (r .order) (r .asc) other
 
-  sorted : (seats : List ℕ) → ring.Apart seats → Below (length keys) seats → Tells seats → Sorted seats
+  sorted : (seats : List ℕ) → ring.Apart seats → Below (length keys) seats → DistinctKeys seats → Sorted seats
   unfolding byKey
   sorted [] apart inside tells = record { order = []; asc = tt; same = λ k. refl; row = refl }
   sorted (s ∷ seats) apart inside tells =

@@ -13,9 +13,9 @@ use Rattle.ring_links.specs.Links.{RingOf}
 use Rattle.free_marks.specs.Marks.{bitAt}
 use Rattle.ring_links.specs.Ring.{has, Out, firstOf}
 use Rattle.pool.specs.Slots.{blank, entries}
-use Rattle.order.specs.Listed.{Listed}
-use Rattle.order.specs.Names.{names}
-use Rattle.order.specs.declared.search.By.the-variants.{Key, Handle}
+use Rattle.sorted_index.specs.Listed.{Listed}
+use Rattle.sorted_index.specs.Names.{names}
+use Rattle.sorted_index.specs.declared.search.By.the-variants.{Key, Handle}
 use Rattle.model.specs.Cache.{Cache}
 use Rattle.model.specs.Row.{Entry, Row, Each}
 use Rattle.memory.specs.Memory.{Memory}
@@ -54,7 +54,7 @@ pub record Headed (head : PageCache) (c : Cache) (seats : List ℕ) : Type 0 whe
   pub estimate : head .estimate ≡ c .estimate
 
 -- a page record is good, and a use count is 0 to 3
-pub record Fine (e : Entry) : Type 0 where
+pub record EntryGood (e : Entry) : Type 0 where
   pub flags : e .page .state .flags ≤ allFlags
   pub uses : e .uses ≤ refMax
 
@@ -63,7 +63,7 @@ pub record Limits (c : Cache) : Type 0 where
   pub some : 1 ≤ c .size
   pub most : c .size ≤ maxSlots
   pub capacity : c .capacity ≤ c .size
-  pub fine : Each Fine (c .row)
+  pub good : Each EntryGood (c .row)
 
 -- the memory and the head hold the cache
 pub record Holds (m : Memory) (head : PageCache) (c : Cache) : Type 0 where

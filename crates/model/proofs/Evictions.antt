@@ -15,7 +15,7 @@ use Rattle.model.specs.Demand.{Limited, MayGo, Stays, Victim, taken, ref
 use Rattle.model.specs.Demand as demand
 use Rattle.model.specs.Cache.{Cache, heldIn, withRow, withEstimate, pageMayGo}
 use Rattle.model.specs.Call.{Outcome, answer}
-use Rattle.model.specs.Limits.{Kept}
+use Rattle.model.specs.Limits.{CacheInvariant}
 use Rattle.model.specs.Rooms.{Room, sweepOf, victimOut, evicted, sweeping, evictions, evictTo}
 use Rattle.model.specs.Rooms as rooms
 use Rattle.model.specs.Rules.{evictAnswer, evictFrom, onEvictOne}
@@ -117,7 +117,7 @@ fell c = sym (sweep-total pageMayGo (c .row))
 -- ── evictions ────────────────────────────────────────────────────────────────
 module _ (target : ℕ) where
   -- a sweep while more are held, and the rest
-  pub sweeping-evicts : (c : Cache) (rest : Room) → Kept c → target < heldIn c
+  pub sweeping-evicts : (c : Cache) (rest : Room) → CacheInvariant c → target < heldIn c
       → ((p : Page) → sweepOf c .victim ≡ some p → EvictsTo target (evicted c) rest)
       → EvictsTo target c (sweeping c (sweepOf c .victim) rest)
   unfolding refused taken
@@ -137,7 +137,7 @@ module _ (target : ℕ) where
           subst (EvictsTo target c) (sym (λ i. sweeping c (took i) rest))
           (takes more (goes c (kept-limited c k) met v others parts victim came) (sweepFalls pageMayGo (c .row)) (fell c) (then (v .page) took))
 
-  evictions-evict : (n : ℕ) (c : Cache) → heldIn c ≤ n → Kept c → EvictsTo target c (evictions n target c)
+  evictions-evict : (n : ℕ) (c : Cache) → heldIn c ≤ n → CacheInvariant c → EvictsTo target c (evictions n target c)
   unfolding evictions
   evictions-evict zero c few k = enough {c = c} (omega arith)
   evictions-evict (suc n) c few k = either (EvictsTo target c) (ltb target (heldIn c))
@@ -145,7 +145,7 @@ module _ (target : ℕ) where
       (λ no-more. enough (ltb-false target (heldIn c) no-more))
 
   -- evict while held > target
-  pub evict-to-evicts : (c : Cache) → Kept c → EvictsTo target c (evictTo target c)
+  pub evict-to-evicts : (c : Cache) → CacheInvariant c → EvictsTo target c (evictTo target c)
   evict-to-evicts c k = evictions-evict (heldIn c) c (omega arith) k
 
   -- the uses that fell and those that are left are those that were there

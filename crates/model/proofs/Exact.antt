@@ -19,7 +19,7 @@ use Rattle.model.specs.Sweep.{touched}
 use Rattle.model.specs.Cache.{Cache, heldIn, withCapacity, up, down, leave, newPage, touch, replacedEntry}
 use Rattle.model.specs.Call.{Insertion, plain, forced, upsert, Call, create, insert, lookup, peek, delete, resize, truncate, remove-frames, clear, notify-dirty, notify-spilled, write, spill, evict-one, switch, Outcome, answer, listing, touching}
 use Rattle.model.specs.Tests.{refusal}
-use Rattle.model.specs.Limits.{Kept}
+use Rattle.model.specs.Limits.{CacheInvariant}
 use Rattle.model.specs.Rooms.{Room, sweepOf, evicted, enough, sweeping, evictTo, makeRoom, following}
 use Rattle.model.specs.Evictions.{EvictsTo}
 use Rattle.model.specs.Evictions as evictions
@@ -169,7 +169,7 @@ module _ (key handle : ℕ) (state : PageRecord) where
   full-settles upsert c = forced-settles c
 
   -- room is made or not: with capacity 0 there is no sweep
-  room-counts : (how : Insertion) (listed : List ℕ) (c : Cache) (row : Row) → Kept c
+  room-counts : (how : Insertion) (listed : List ℕ) (c : Cache) (row : Row) → CacheInvariant c
       → Counts (roomEffect c listed) row (listing listed (admit key handle state how c))
   unfolding makeRoom
   room-counts how listed c row k = go (eqb (c .capacity) 0)
@@ -210,7 +210,7 @@ module _ (key handle : ℕ) (state : PageRecord) where
   present-counts forced c e s = exists-counts c e s
   present-counts upsert c e s = upsert-counts c e s
 
-  insert-counts : (how : Insertion) (found : Option Entry) (c : Cache) → Kept c → find key (c .row) ≡ found
+  insert-counts : (how : Insertion) (found : Option Entry) (c : Cache) → CacheInvariant c → find key (c .row) ≡ found
       → Counts (insertEffect how handle found c) (c .row) (insertFound key handle state how found c)
   insert-counts how none c k q = room-counts how [] c (c .row) k
   insert-counts how (some e) c k q = go (stale (e .page .state))
@@ -247,7 +247,7 @@ module _ (key handle : ℕ) (state : PageRecord) where
       go false = present-counts how c e (find-stands key (c .row) e q)
 
 -- ── rule 10, and one eviction asked for ──────────────────────────────────────
-resize-counts : (capacity : ℕ) (c : Cache) → Kept c → Counts (resizeEffect capacity c) (c .row) (onResize capacity c)
+resize-counts : (capacity : ℕ) (c : Cache) → CacheInvariant c → Counts (resizeEffect capacity c) (c .row) (onResize capacity c)
 resize-counts capacity c k = go (eqb capacity (c .capacity))
   where
     r : Room
@@ -261,7 +261,7 @@ resize-counts capacity c k = go (eqb capacity (c .capacity))
     go false = evictions-count {x = record { from = c; target = capacity; listed = [] }} (evict-to-evicts capacity c k)
         (either (Settles (r .cache)) (r .full) (λ _. settled) (λ _. resettled))
 
-evict-counts : (row : Row) (c : Cache) → Kept c → c .row ≡ row → Counts (evictEffect row c) (c .row) (evictFrom row c)
+evict-counts : (row : Row) (c : Cache) → CacheInvariant c → c .row ≡ row → Counts (evictEffect row c) (c .row) (evictFrom row c)
 evict-counts [] c k q = answered (c .row)
 evict-counts (e ∷ es) c k q =
     let r : Room = sweeping c (sweepOf c .victim) (enough (evicted c)) in
@@ -271,7 +271,7 @@ evict-counts (e ∷ es) c k q =
     (either (Settles (r .cache)) (r .full) (λ _. settled) (λ _. settled))
 
 -- ── every call ───────────────────────────────────────────────────────────────
-act-counts : (call : Call) (c : Cache) → Kept c → Counts (ruleEffect call c) (c .row) (act call c)
+act-counts : (call : Call) (c : Cache) → CacheInvariant c → Counts (ruleEffect call c) (c .row) (act call c)
 unfolding act onInsert
 act-counts (create capacity) c k = answered (c .row)
 act-counts (insert how key handle state places) c k = insert-counts key handle state how (find key (c .row)) c k refl
@@ -290,7 +290,7 @@ act-counts (evict-one places) c k = evict-counts (c .row) c k refl
 act-counts (switch on) c k = answered (c .row)
 
 -- the touch of every call and what it does to the page, and its evictions, each by demand 3, with the uses that fall in it
-pub step-counts : (call : Call) (c : Cache) → Kept c → Counts (effectOf call c) (c .row) (step call c)
+pub step-counts : (call : Call) (c : Cache) → CacheInvariant c → Counts (effectOf call c) (c .row) (step call c)
 unfolding step
 step-counts call c k = go (refusal call c)
   where
@@ -300,7 +300,7 @@ step-counts call c k = go (refusal call c)
 
 -- ── the two numbers ──────────────────────────────────────────────────────────
 -- one touch or none
-pub touches-exact : (call : Call) (c : Cache) → Kept c → step call c .touches ≡ touchesOf (effectOf call c .touched)
+pub touches-exact : (call : Call) (c : Cache) → CacheInvariant c → step call c .touches ≡ touchesOf (effectOf call c .touched)
 touches-exact call c k = go (effectOf call c .touched) (step-counts call c k .touches)
   where
     go : (key : Option ℕ) → Touched key (c .row) (step call c) → step call c .touches ≡ touchesOf key
@@ -313,7 +313,7 @@ enters-total stays = refl
 enters-total {row} (enters p) = total-enter p row
 
 -- what fell is the total before the evictions minus the total after the call
-pub falls-exact : (call : Call) (c : Cache) → Kept c → Fell (effectOf call c .evicting) (step call c .cache) (step call c .falls)
+pub falls-exact : (call : Call) (c : Cache) → CacheInvariant c → Fell (effectOf call c .evicting) (step call c .cache) (step call c .falls)
 falls-exact call c k = go (effectOf call c .evicting) (step-counts call c k .evictions)
   where
     go : (x : Option Evicting) → EvictionsOf x (step call c) → Fell x (step call c .cache) (step call c .falls)

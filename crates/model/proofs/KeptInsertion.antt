@@ -20,7 +20,7 @@ use Rattle.model.specs.Call.{Insertion, plain, forced, upsert, Outcome}
 use Rattle.model.specs.Rooms.{Room, makeRoom}
 use Rattle.model.specs.Rules.{deleting, place, onFull, inRoom, admit, keyExists, present, insertFound, onInsert}
 use Rattle.model.specs.Tests.{underOther}
-use Rattle.model.specs.Limits.{Fit, Good, Kept}
+use Rattle.model.specs.Limits.{RecordInRange, EntryInRange, CacheInvariant}
 use Rattle.model.proofs.Numbers.{OtherKey, OtherHandle, apart-others}
 use Rattle.model.proofs.ByKey.{Stands, stands-without, stands-own, find-stands, find-none}
 use Rattle.model.proofs.KeptCases.{either, deleted-or-refused}
@@ -39,7 +39,7 @@ no-handles (x ∷ xs) h = absurd (omega arith)
 module _ (key handle : ℕ) (state : PageRecord) where
   -- the arguments are in range
   abbrev Given : Type 0
-  Given = (key < 2 ^ 32) × (handle < 2 ^ 32) × Fit state
+  Given = (key < 2 ^ 32) × (handle < 2 ^ 32) × RecordInRange state
 
   -- neither the key nor the handle is in the row
   record Absent (row : Row) : Type 0 where
@@ -70,15 +70,15 @@ module _ (key handle : ℕ) (state : PageRecord) where
       (λ _. full-code how (r .cache)) (λ _ high. absurd (omega arith))
 
   -- and before it
-  admit-code : (how : Insertion) (c : Cache) → Kept c → 11 ≤ admit key handle state how c .code → c .size ≤ heldIn c
+  admit-code : (how : Insertion) (c : Cache) → CacheInvariant c → 11 ≤ admit key handle state how c .code → c .size ≤ heldIn c
   admit-code how c k high = omega (arith, room-code how (makeRoom c) high, make-room-size c, make-room c k .count)
 
   module _ (flags : state .flags ≤ allFlags) where
     -- ── the key is absent ────────────────────────────────────────────────────
-    place-kept : (c : Cache) → Kept c → heldIn c < c .size → Absent (c .row) → Given → Kept (place key handle state c .cache)
+    place-kept : (c : Cache) → CacheInvariant c → heldIn c < c .size → Absent (c .row) → Given → CacheInvariant (place key handle state c .cache)
     place-kept c k room a g =
         let p : Page = newPage key handle state c in
-        let good : Good (c .size) (record { page = p; uses = 0 }) = record {
+        let good : EntryInRange (c .size) (record { page = p; uses = 0 }) = record {
           slot = omega (arith, lowest-bound (c .row));
           key = g .0;
           handle = g .1;
@@ -94,19 +94,19 @@ module _ (key handle : ℕ) (state : PageRecord) where
         let row = fits-enter (c .size) p (c .row) room good new (kept-fits c k) in
         fits-kept c (enterRow p (c .row)) (countIn p (c .estimate)) k (count-in-range p (c .estimate) (k .estimate)) row
 
-    place-leaves : (c : Cache) → Kept c → heldIn c < c .size → Absent (c .row) → Leaves c 0 Given (place key handle state c)
+    place-leaves : (c : Cache) → CacheInvariant c → heldIn c < c .size → Absent (c .row) → Leaves c 0 Given (place key handle state c)
     place-leaves c k room a = leaves-done c (place key handle state c) (inl refl) (omega arith) (place-kept c k room a)
 
-    forced-leaves : (c : Cache) → Kept c → Absent (c .row) → Leaves c 0 Given (onFull key handle state forced c)
+    forced-leaves : (c : Cache) → CacheInvariant c → Absent (c .row) → Leaves c 0 Given (onFull key handle state forced c)
     forced-leaves c k a = either (Leaves c 0 Given) (ltb (heldIn c) (c .size))
         (λ h. place-leaves c k (ltb-true (heldIn c) (c .size) h) a) (λ _. leaves-same c 13 0 k)
 
-    full-leaves : (how : Insertion) (c : Cache) → Kept c → Absent (c .row) → Leaves c 0 Given (onFull key handle state how c)
+    full-leaves : (how : Insertion) (c : Cache) → CacheInvariant c → Absent (c .row) → Leaves c 0 Given (onFull key handle state how c)
     full-leaves plain c k a = leaves-same c 8 0 k
     full-leaves forced c k a = forced-leaves c k a
     full-leaves upsert c k a = forced-leaves c k a
 
-    admit-leaves : (how : Insertion) (c : Cache) → Kept c → Absent (c .row)
+    admit-leaves : (how : Insertion) (c : Cache) → CacheInvariant c → Absent (c .row)
         → Leaves c (heldIn c) Given (admit key handle state how c)
     admit-leaves how c k a = leaves-following c r m _ unchanged then
       where
@@ -134,7 +134,7 @@ module _ (key handle : ℕ) (state : PageRecord) where
         }
 
     -- ── the key is present ───────────────────────────────────────────────────
-    module _ (c : Cache) (k : Kept c) (u : Each (Under key handle) (c .row)) (e : Entry) (s : Stands key (c .row) e) where
+    module _ (c : Cache) (k : CacheInvariant c) (u : Each (Under key handle) (c .row)) (e : Entry) (s : Stands key (c .row) e) where
       others : Absent (s .before ++ s .after)
       others = absent (s .before ++ s .after) (each-remove (Under key handle) (s .before) e (s .after) (rw (s .parts) at u))
           (rw (s .named) at (apart-others (λ p. p .key) (s .before) e (s .after) (rw (s .parts) at (k .keys))))
@@ -151,7 +151,7 @@ module _ (key handle : ℕ) (state : PageRecord) where
           rest : Cache
           rest = leave (e .page) c
 
-          kept : Kept rest
+          kept : CacheInvariant rest
           kept = leave-kept (e .page) c k
 
           gone : Absent (rest .row)
@@ -173,8 +173,8 @@ module _ (key handle : ℕ) (state : PageRecord) where
       present-leaves upsert = leaves-done c _ (inl refl) (omega arith)
           (λ g. upsert-kept c k key e s handle state (g .1) flags (g .2) (others .handles))
 
-    pub insert-leaves : (how : Insertion) (c : Cache) → Kept c → underOther key handle (c .row) ≡ false
-        → Leaves c (heldIn c) ((key < 2 ^ 32) × (handle < 2 ^ 32) × Fit state) (onInsert key handle state how c)
+    pub insert-leaves : (how : Insertion) (c : Cache) → CacheInvariant c → underOther key handle (c .row) ≡ false
+        → Leaves c (heldIn c) ((key < 2 ^ 32) × (handle < 2 ^ 32) × RecordInRange state) (onInsert key handle state how c)
     unfolding onInsert
     insert-leaves how c k h = go (find key (c .row)) refl
       where

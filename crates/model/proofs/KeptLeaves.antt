@@ -8,7 +8,7 @@ use lib.ListN.{length, length-append}
 use Rattle.model.specs.Cache.{Cache, heldIn}
 use Rattle.model.specs.Call.{Outcome, answer, listing}
 use Rattle.model.specs.Rooms.{Room, following}
-use Rattle.model.specs.Limits.{Kept}
+use Rattle.model.specs.Limits.{CacheInvariant}
 use Rattle.model.proofs.KeptRooms.{Makes}
 
 both-nil : (xs ys : List ℕ) → xs ++ ys ≡ [] → (xs ≡ []) × (ys ≡ [])
@@ -28,7 +28,7 @@ pub record Refusal (code : ℕ) : Type 0 where
 -- an outcome of a rule on the cache c
 pub record Leaves (c : Cache) (most : ℕ) (given : Type 0) (o : Outcome) : Type 0 where
   -- the limits are kept, if the arguments are in range
-  pub kept : given → Kept (o .cache)
+  pub kept : given → CacheInvariant (o .cache)
   -- at most `most` handles are listed
   pub listed : length (o .listed) ≤ most
   -- a code from 11 on says that nothing was changed
@@ -38,7 +38,7 @@ pub record Leaves (c : Cache) (most : ℕ) (given : Type 0) (o : Outcome) : Type
 
 module _ {most : ℕ} {given : Type 0} (c : Cache) where
   -- nothing was changed, whatever the code
-  pub leaves-same : (code value : ℕ) → Kept c → Leaves c most given (answer code value c)
+  pub leaves-same : (code value : ℕ) → CacheInvariant c → Leaves c most given (answer code value c)
   leaves-same code value k = record {
     kept = λ _. k;
     listed = omega arith;
@@ -47,7 +47,7 @@ module _ {most : ℕ} {given : Type 0} (c : Cache) where
   }
 
   -- done, or the key exists and was touched
-  pub leaves-done : (o : Outcome) → (o .code ≡ 0) ⊎ (o .code ≡ 9) → length (o .listed) ≤ most → (given → Kept (o .cache)) → Leaves c most given o
+  pub leaves-done : (o : Outcome) → (o .code ≡ 0) ⊎ (o .code ≡ 9) → length (o .listed) ≤ most → (given → CacheInvariant (o .cache)) → Leaves c most given o
   leaves-done o (inl done) few k = record {
     kept = k;
     listed = few;
@@ -77,7 +77,7 @@ none-gone c r m o q = m .still (both-nil (r .gone) (o .listed) q .0)
 
 module _ {target : ℕ} {given : Type 0} (c : Cache) (r : Room) (m : Makes target c r) where
   -- pages were evicted, and then a code up to 10: done, or a refusal that leaves what they left
-  pub leaves-evicted : (code : ℕ) (after : Cache) → code ≤ 10 → (Refusal code → after ≡ r .cache) → Kept after
+  pub leaves-evicted : (code : ℕ) (after : Cache) → code ≤ 10 → (Refusal code → after ≡ r .cache) → CacheInvariant after
       → Leaves c (heldIn c) given (following r (answer code 0 after))
   leaves-evicted code after low same k = record {
     kept = λ _. k;

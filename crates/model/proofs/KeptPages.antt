@@ -13,7 +13,7 @@ use Rattle.page.proofs.Each.{each-middle}
 use Rattle.model.specs.Row.{Page, Entry, Row, Each, find, change, without}
 use Rattle.model.specs.Sweep.{touched}
 use Rattle.model.specs.Cache.{Cache, withRow, withEstimate, withCapacity, withSpill, fresh, pageCounts, estimateMax, countIn, countOut, countOver, leave, touch, rewritten, rewrite, replaced, replacedEntry, replace}
-use Rattle.model.specs.Limits.{Fit, Good, Kept}
+use Rattle.model.specs.Limits.{RecordInRange, EntryInRange, CacheInvariant}
 use Rattle.model.proofs.Numbers.{OtherHandle, apart-others}
 use Rattle.model.proofs.ByKey.{Stands, stands-without, stands-change, stands-own, stands-changed, find-stands, find-none, without-none}
 use Rattle.model.proofs.KeptCases.{one-of}
@@ -33,7 +33,7 @@ count-over-range old new n h = one-of InRange (pageCounts old)
     (one-of InRange (pageCounts new) (omega arith) h)
 
 -- ── the cache's own fields ───────────────────────────────────────────────────
-pub fresh-kept : (size capacity : ℕ) → capacity ≤ size → Kept (fresh size capacity)
+pub fresh-kept : (size capacity : ℕ) → capacity ≤ size → CacheInvariant (fresh size capacity)
 fresh-kept size capacity h = record {
   held = omega arith;
   capacity = h;
@@ -44,7 +44,7 @@ fresh-kept size capacity h = record {
   handles = tt;
 }
 
-pub capacity-kept : (capacity : ℕ) (c : Cache) → Kept c → capacity ≤ c .size → Kept (withCapacity capacity c)
+pub capacity-kept : (capacity : ℕ) (c : Cache) → CacheInvariant c → capacity ≤ c .size → CacheInvariant (withCapacity capacity c)
 capacity-kept capacity c k h = record {
   held = k .held;
   capacity = h;
@@ -55,7 +55,7 @@ capacity-kept capacity c k h = record {
   handles = k .handles;
 }
 
-pub switch-kept : (on : Bool) (c : Cache) → Kept c → Kept (withSpill on c)
+pub switch-kept : (on : Bool) (c : Cache) → CacheInvariant c → CacheInvariant (withSpill on c)
 switch-kept on c k = record {
   held = k .held;
   capacity = k .capacity;
@@ -77,7 +77,7 @@ fits-without size key row f = go (find key row) refl
         let s = find-stands key row e q in
         rw (stands-without key row e s) (fits-remove size (s .before) e (s .after) (rw (s .parts) at f))
 
-pub leave-kept : (p : Page) (c : Cache) → Kept c → Kept (leave p c)
+pub leave-kept : (p : Page) (c : Cache) → CacheInvariant c → CacheInvariant (leave p c)
 leave-kept p c k = fits-kept c (without (p .key) (c .row)) (countOut p (c .estimate)) k
     (omega (arith, k .estimate, count-out-le p (c .estimate))) (fits-without (c .size) (p .key) (c .row) (kept-fits c k))
 
@@ -87,28 +87,28 @@ without-held key row e s = rw (stands-without key row e s, s .parts)
     (omega (arith, length-append (s .before) (e ∷ s .after), length-append (s .before) (s .after)))
 
 -- ── a page is changed where it stands ────────────────────────────────────────
-module _ (c : Cache) (k : Kept c) (key : ℕ) (e : Entry) (s : Stands key (c .row) e) where
+module _ (c : Cache) (k : CacheInvariant c) (key : ℕ) (e : Entry) (s : Stands key (c .row) e) where
   split : Fits (c .size) (s .before ++ e ∷ s .after)
   split = rw (s .parts) at (kept-fits c k)
 
-  pub stands-good : Good (c .size) e
-  stands-good = each-middle (Good (c .size)) (s .before) e (s .after) (split .good)
+  pub stands-good : EntryInRange (c .size) e
+  stands-good = each-middle (EntryInRange (c .size)) (s .before) e (s .after) (split .good)
 
   other-handles : Each (OtherHandle (e .page .handle)) (s .before ++ s .after)
   other-handles = apart-others (λ p. p .handle) (s .before) e (s .after) (split .handles)
 
   -- by f, and with n as the estimate
-  change-kept : (f : Entry → Entry) (n : ℕ) → n ≤ estimateMax → Good (c .size) (f e)
+  change-kept : (f : Entry → Entry) (n : ℕ) → n ≤ estimateMax → EntryInRange (c .size) (f e)
       → f e .page .slot ≡ e .page .slot → f e .page .key ≡ e .page .key → Each (OtherHandle (f e .page .handle)) (s .before ++ s .after)
-      → Kept (withEstimate n (withRow (change key f (c .row)) c))
+      → CacheInvariant (withEstimate n (withRow (change key f (c .row)) c))
   change-kept f n l g slot same-key handle = fits-kept c (change key f (c .row)) n k l (rw (stands-change key (c .row) e s f) changed)
     where
       changed : Fits (c .size) (s .before ++ f e ∷ s .after)
       changed = fits-change (c .size) (s .before) e (f e) (s .after) g slot same-key handle split
 
-  pub touch-kept : Kept (touch key c)
+  pub touch-kept : CacheInvariant (touch key c)
   touch-kept =
-      let g : Good (c .size) (touched e) = record {
+      let g : EntryInRange (c .size) (touched e) = record {
         slot = stands-good .slot;
         key = stands-good .key;
         handle = stands-good .handle;
@@ -118,9 +118,9 @@ module _ (c : Cache) (k : Kept c) (key : ℕ) (e : Entry) (s : Stands key (c .ro
       } in
       change-kept touched (c .estimate) (k .estimate) g refl refl other-handles
 
-  pub rewrite-kept : (state : PageRecord) → state .flags ≤ allFlags → Fit state → Kept (rewrite key state c)
+  pub rewrite-kept : (state : PageRecord) → state .flags ≤ allFlags → RecordInRange state → CacheInvariant (rewrite key state c)
   rewrite-kept state flags fit =
-      let g : Good (c .size) (rewritten state e) = record {
+      let g : EntryInRange (c .size) (rewritten state e) = record {
         slot = stands-good .slot;
         key = stands-good .key;
         handle = stands-good .handle;
@@ -131,12 +131,12 @@ module _ (c : Cache) (k : Kept c) (key : ℕ) (e : Entry) (s : Stands key (c .ro
       change-kept (rewritten state) (c .estimate) (k .estimate) g refl refl other-handles
 
 -- another page in its place, with a handle that no other page has
-replace-kept : (c : Cache) → Kept c → (e : Entry) (s : Stands (e .page .key) (c .row) e) (handle : ℕ) (state : PageRecord)
-    → handle < 2 ^ 32 → state .flags ≤ allFlags → Fit state → Each (OtherHandle handle) (s .before ++ s .after)
-    → Kept (replace (e .page) handle state c)
+replace-kept : (c : Cache) → CacheInvariant c → (e : Entry) (s : Stands (e .page .key) (c .row) e) (handle : ℕ) (state : PageRecord)
+    → handle < 2 ^ 32 → state .flags ≤ allFlags → RecordInRange state → Each (OtherHandle handle) (s .before ++ s .after)
+    → CacheInvariant (replace (e .page) handle state c)
 replace-kept c k e s handle state small flags fit new-handle =
-    let old : Good (c .size) e = stands-good c k (e .page .key) e s in
-    let g : Good (c .size) (replacedEntry handle state e) = record {
+    let old : EntryInRange (c .size) e = stands-good c k (e .page .key) e s in
+    let g : EntryInRange (c .size) (replacedEntry handle state e) = record {
       slot = old .slot;
       key = old .key;
       handle = small;
@@ -149,8 +149,8 @@ replace-kept c k e s handle state small flags fit new-handle =
     (count-over-range (e .page) new (c .estimate) (k .estimate)) g refl refl new-handle
 
 -- a touch first
-pub upsert-kept : (c : Cache) → Kept c → (key : ℕ) (e : Entry) (s : Stands key (c .row) e) (handle : ℕ) (state : PageRecord)
-    → handle < 2 ^ 32 → state .flags ≤ allFlags → Fit state → Each (OtherHandle handle) (s .before ++ s .after)
-    → Kept (replace (e .page) handle state (touch key c))
+pub upsert-kept : (c : Cache) → CacheInvariant c → (key : ℕ) (e : Entry) (s : Stands key (c .row) e) (handle : ℕ) (state : PageRecord)
+    → handle < 2 ^ 32 → state .flags ≤ allFlags → RecordInRange state → Each (OtherHandle handle) (s .before ++ s .after)
+    → CacheInvariant (replace (e .page) handle state (touch key c))
 upsert-kept c k key e s = replace-kept (touch key c) (touch-kept c k key e s) (touched e)
     (stands-own key (touch key c .row) (touched e) (stands-changed key (c .row) e s touched (s .named)))

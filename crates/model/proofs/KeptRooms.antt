@@ -16,7 +16,7 @@ use Rattle.model.specs.Sweep.{pass, lower, goesNow, looks, sweep, Swept}
 use Rattle.model.specs.Demand.{Limited, refused}
 use Rattle.model.specs.Cache.{Cache, heldIn, pageMayGo, pageCounts, countOut}
 use Rattle.model.specs.Rooms.{Room, sweepOf, victimOut, evicted, enough, sweeping, evictions, evictTo, makeRoom}
-use Rattle.model.specs.Limits.{Good, Kept}
+use Rattle.model.specs.Limits.{EntryInRange, CacheInvariant}
 use Rattle.model.proofs.Evicts.{full-unchanged, held-after}
 use Rattle.model.proofs.KeptCases.{either, one-of}
 use Rattle.model.proofs.KeptRows.{Fits, fits-remove, fits-look, kept-fits, fits-kept}
@@ -51,12 +51,12 @@ victim-out-le : (v : Option Page) (n : ℕ) → victimOut v n ≤ n
 victim-out-le none n = omega arith
 victim-out-le (some p) n = count-out-le p n
 
-module _ (c : Cache) (k : Kept c) where
+module _ (c : Cache) (k : CacheInvariant c) where
   -- use counts are 0 to 3: what demand 3's theorems require
   pub kept-limited : Each Limited (c .row)
-  kept-limited = each-weaken (Good (c .size)) Limited (λ e g. g .uses) (c .row) (k .good)
+  kept-limited = each-weaken (EntryInRange (c .size)) Limited (λ e g. g .uses) (c .row) (k .good)
 
-  pub evicted-kept : Kept (evicted c)
+  pub evicted-kept : CacheInvariant (evicted c)
   evicted-kept = fits-kept c (sweepOf c .row) (victimOut (sweepOf c .victim) (c .estimate)) k
       (omega (arith, k .estimate, victim-out-le (sweepOf c .victim) (c .estimate)))
       (sweep-fits pageMayGo (c .size) (c .row) (kept-fits c k))
@@ -78,7 +78,7 @@ module _ (c : Cache) (k : Kept c) where
 -- ── evictions ────────────────────────────────────────────────────────────────
 -- what evictions from c down to a target come to
 pub record Makes (target : ℕ) (c : Cache) (r : Room) : Type 1 where
-  pub kept : Kept (r .cache)
+  pub kept : CacheInvariant (r .cache)
   -- each handle gone leaves one page less
   pub count : heldIn (r .cache) + length (r .gone) ≡ heldIn c
   -- there is room unless the last sweep answered Full
@@ -89,10 +89,10 @@ pub record Makes (target : ℕ) (c : Cache) (r : Room) : Type 1 where
   pub pages : (P : Page → Type 0) → Each (λ e. P (e .page)) (c .row) → Each (λ e. P (e .page)) (r .cache .row)
 
 module _ (target : ℕ) where
-  makes-enough : (c : Cache) → Kept c → heldIn c ≤ target → Makes target c (enough c)
+  makes-enough : (c : Cache) → CacheInvariant c → heldIn c ≤ target → Makes target c (enough c)
   makes-enough c k l = record { kept = k; count = omega arith; room = λ _. l; still = λ _. refl; pages = λ P t. t }
 
-  makes-full : (c : Cache) (r : Room) → Kept c → sweepOf c .victim ≡ none → Makes target c (sweeping c none r)
+  makes-full : (c : Cache) (r : Room) → CacheInvariant c → sweepOf c .victim ≡ none → Makes target c (sweeping c none r)
   makes-full c r k q = record {
     kept = evicted-kept c k;
     count = let e = ap heldIn (failed-room-unchanged c k q) in omega arith;
@@ -101,7 +101,7 @@ module _ (target : ℕ) where
     pages = λ P. sweep-pages pageMayGo P (c .row);
   }
 
-  makes-more : (c : Cache) (p : Page) (r : Room) → Kept c → sweepOf c .victim ≡ some p → Makes target (evicted c) r
+  makes-more : (c : Cache) (p : Page) (r : Room) → CacheInvariant c → sweepOf c .victim ≡ some p → Makes target (evicted c) r
       → Makes target c (sweeping c (some p) r)
   makes-more c p r k q m = record {
     kept = m .kept;
@@ -111,12 +111,12 @@ module _ (target : ℕ) where
     pages = λ P t. m .pages P (sweep-pages pageMayGo P (c .row) t);
   }
 
-  makes-sweeping : (c : Cache) (r : Room) (v : Option Page) → Kept c → sweepOf c .victim ≡ v
+  makes-sweeping : (c : Cache) (r : Room) (v : Option Page) → CacheInvariant c → sweepOf c .victim ≡ v
       → ((p : Page) → sweepOf c .victim ≡ some p → Makes target (evicted c) r) → Makes target c (sweeping c v r)
   makes-sweeping c r none k q rest = makes-full c r k q
   makes-sweeping c r (some p) k q rest = makes-more c p r k q (rest p q)
 
-  evictions-make : (n : ℕ) (c : Cache) → heldIn c ≤ n → Kept c → Makes target c (evictions n target c)
+  evictions-make : (n : ℕ) (c : Cache) → heldIn c ≤ n → CacheInvariant c → Makes target c (evictions n target c)
   unfolding evictions
   evictions-make zero c l k = makes-enough c k (omega arith)
   evictions-make (suc n) c l k = either (Makes target c) (ltb target (heldIn c))
@@ -124,23 +124,23 @@ module _ (target : ℕ) where
       (λ h. makes-enough c k (ltb-false target (heldIn c) h))
 
   -- evict while held > target
-  pub evict-makes : (c : Cache) → Kept c → Makes target c (evictTo target c)
+  pub evict-makes : (c : Cache) → CacheInvariant c → Makes target c (evictTo target c)
   evict-makes c k = evictions-make (heldIn c) c (omega arith) k
 
 -- one eviction, asked for
-pub evict-one-makes : (c : Cache) → Kept c → Makes (heldIn (evicted c)) c (sweeping c (sweepOf c .victim) (enough (evicted c)))
+pub evict-one-makes : (c : Cache) → CacheInvariant c → Makes (heldIn (evicted c)) c (sweeping c (sweepOf c .victim) (enough (evicted c)))
 evict-one-makes c k = makes-sweeping (heldIn (evicted c)) c (enough (evicted c)) (sweepOf c .victim) k refl
     (λ p q. makes-enough (heldIn (evicted c)) (evicted c) (evicted-kept c k) (omega arith))
 
 -- making room for one
-pub make-room : (c : Cache) → Kept c → Makes (c .capacity - 1) c (makeRoom c)
+pub make-room : (c : Cache) → CacheInvariant c → Makes (c .capacity - 1) c (makeRoom c)
 unfolding makeRoom
 make-room c k = either (Makes (c .capacity - 1) c) (eqb (c .capacity) 0)
     (λ h. record { kept = k; count = omega arith; room = λ full. absurd (true≢false full); still = λ _. refl; pages = λ P t. t })
     (λ h. evict-makes (c .capacity - 1) c k)
 
 -- room for one is a free slot
-pub make-room-spare : (c : Cache) → Kept c → makeRoom c .full ≡ false → heldIn (makeRoom c .cache) < c .size
+pub make-room-spare : (c : Cache) → CacheInvariant c → makeRoom c .full ≡ false → heldIn (makeRoom c .cache) < c .size
 unfolding makeRoom
 make-room-spare c k = either (λ (r : Room). r .full ≡ false → heldIn (r .cache) < c .size) (eqb (c .capacity) 0)
     (λ h full. absurd (true≢false full))

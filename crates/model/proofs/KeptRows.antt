@@ -10,14 +10,14 @@ use Rattle.page.proofs.Each.{each-append, each-remove, each-place}
 use Rattle.model.specs.Row.{Page, Entry, Row, Each}
 use Rattle.model.specs.Sweep.{lower}
 use Rattle.model.specs.Cache.{Cache, enterRow, estimateMax, withRow, withEstimate}
-use Rattle.model.specs.Limits.{Apart, Good, Kept}
+use Rattle.model.specs.Limits.{Apart, EntryInRange, CacheInvariant}
 use Rattle.model.proofs.Lowering.{lower-le}
 use Rattle.model.proofs.Numbers.{OtherSlot, OtherKey, OtherHandle, each-enter, apart-place, apart-remove, apart-turn, apart-same, apart-enter}
 
 -- a row of a cache with `size` slots, within its limits
 pub record Fits (size : ℕ) (row : Row) : Type 0 where
   pub held : length row ≤ size
-  pub good : Each (Good size) row
+  pub good : Each (EntryInRange size) row
   pub slots : Apart (λ p. p .slot) row
   pub keys : Apart (λ p. p .key) row
   pub handles : Apart (λ p. p .handle) row
@@ -38,7 +38,7 @@ module _ (size : ℕ) where
   pub fits-remove : (before : Row) (e : Entry) (after : Row) → Fits size (before ++ e ∷ after) → Fits size (before ++ after)
   fits-remove before e after f = record {
     held = omega (arith, f .held, length-append before (e ∷ after), length-append before after);
-    good = each-remove (Good size) before e after (f .good);
+    good = each-remove (EntryInRange size) before e after (f .good);
     slots = apart-remove (λ p. p .slot) before e after (f .slots);
     keys = apart-remove (λ p. p .key) before e after (f .keys);
     handles = apart-remove (λ p. p .handle) before e after (f .handles);
@@ -46,23 +46,23 @@ module _ (size : ℕ) where
 
   -- ── a page in the place of another ─────────────────────────────────────────
   -- with the same slot and key, and its own handle or a new one
-  pub fits-change : (before : Row) (e x : Entry) (after : Row) → Good size x
+  pub fits-change : (before : Row) (e x : Entry) (after : Row) → EntryInRange size x
       → x .page .slot ≡ e .page .slot → x .page .key ≡ e .page .key → Each (OtherHandle (x .page .handle)) (before ++ after)
       → Fits size (before ++ e ∷ after) → Fits size (before ++ x ∷ after)
   fits-change before e x after g s k h f = record {
     held = omega (arith, f .held, length-append before (e ∷ after), length-append before (x ∷ after));
-    good = each-place (Good size) before x after g (each-remove (Good size) before e after (f .good));
+    good = each-place (EntryInRange size) before x after g (each-remove (EntryInRange size) before e after (f .good));
     slots = apart-same (λ p. p .slot) before e x after (sym s) (f .slots);
     keys = apart-same (λ p. p .key) before e x after (sym k) (f .keys);
     handles = apart-place (λ p. p .handle) before x after h (apart-remove (λ p. p .handle) before e after (f .handles));
   }
 
   -- ── a page enters ──────────────────────────────────────────────────────────
-  pub fits-enter : (p : Page) (row : Row) → length row < size → Good size (record { page = p; uses = 0 }) → New p row
+  pub fits-enter : (p : Page) (row : Row) → length row < size → EntryInRange size (record { page = p; uses = 0 }) → New p row
       → Fits size row → Fits size (enterRow p row)
   fits-enter p row room g n f = record {
     held = omega (arith, enter-length p row);
-    good = each-enter (Good size) p row g (f .good);
+    good = each-enter (EntryInRange size) p row g (f .good);
     slots = apart-enter (λ q. q .slot) p row (n .slot) (f .slots);
     keys = apart-enter (λ q. q .key) p row (n .key) (f .keys);
     handles = apart-enter (λ q. q .handle) p row (n .handle) (f .handles);
@@ -70,7 +70,7 @@ module _ (size : ℕ) where
 
   -- ── a look ─────────────────────────────────────────────────────────────────
   -- an entry with fewer uses
-  good-lower : (may : Page → Bool) (e : Entry) → Good size e → Good size (lower may 1 e)
+  good-lower : (may : Page → Bool) (e : Entry) → EntryInRange size e → EntryInRange size (lower may 1 e)
   unfolding lower
   good-lower may e g = record {
     slot = g .slot;
@@ -86,19 +86,19 @@ module _ (size : ℕ) where
   unfolding lower
   fits-look may e es f = record {
     held = omega (arith, f .held, length-append es (lower may 1 e ∷ []));
-    good = each-append (Good size) es (lower may 1 e ∷ []) (f .good .1) (good-lower may e (f .good .0), tt);
+    good = each-append (EntryInRange size) es (lower may 1 e ∷ []) (f .good .1) (good-lower may e (f .good .0), tt);
     slots = apart-turn (λ p. p .slot) (lower may 1 e ∷ []) es (f .slots);
     keys = apart-turn (λ p. p .key) (lower may 1 e ∷ []) es (f .keys);
     handles = apart-turn (λ p. p .handle) (lower may 1 e ∷ []) es (f .handles);
   }
 
 -- ── the row of a cache ───────────────────────────────────────────────────────
-pub kept-fits : (c : Cache) → Kept c → Fits (c .size) (c .row)
+pub kept-fits : (c : Cache) → CacheInvariant c → Fits (c .size) (c .row)
 kept-fits c k = record { held = k .held; good = k .good; slots = k .slots; keys = k .keys; handles = k .handles }
 
 -- another row and another estimate
-pub fits-kept : (c : Cache) (row : Row) (n : ℕ) → Kept c → n ≤ estimateMax → Fits (c .size) row
-    → Kept (withEstimate n (withRow row c))
+pub fits-kept : (c : Cache) (row : Row) (n : ℕ) → CacheInvariant c → n ≤ estimateMax → Fits (c .size) row
+    → CacheInvariant (withEstimate n (withRow row c))
 fits-kept c row n k l f = record {
   held = f .held;
   capacity = k .capacity;

@@ -20,7 +20,7 @@ use Rattle.model.specs.Rooms.{Room, sweepOf, evicted, enough, sweeping, 
 use Rattle.model.specs.Rules.{deleting, hit, lookupFound, peekFound, deleteFound, onResize, deleteEach, onClear, emptied, clearUnless, notified, writeFound, evictFrom}
 use Rattle.model.specs.Spill.{onSpill, selected, selection, needsSpill, pageSpillable}
 use Rattle.model.specs.Step.{act}
-use Rattle.model.specs.Limits.{Fit, Kept, Proper}
+use Rattle.model.specs.Limits.{RecordInRange, CacheInvariant, ArgumentsInRange}
 use Rattle.model.proofs.ByKey.{Stands, stands-own, find-stands}
 use Rattle.model.proofs.KeptCases.{either, deleted-or-refused}
 use Rattle.model.proofs.KeptOrder.{by-key-length, walk-length}
@@ -32,7 +32,7 @@ use Rattle.model.proofs.KeptTests.{Passes}
 use Rattle.model.proofs.KeptLeaves.{Leaves, leaves-same, leaves-done, leaves-listing, leaves-evicted}
 use Rattle.model.proofs.KeptInsertion.{insert-leaves}
 
-module _ {given : Type 0} (c : Cache) (k : Kept c) where
+module _ {given : Type 0} (c : Cache) (k : CacheInvariant c) where
   -- ── rules 8 and 9 ──────────────────────────────────────────────────────────
   -- a page that stands there is deleted, or rule 8 refuses
   delete-leaves : (key code : ℕ) → code ≤ 10 → (e : Entry) → Stands key (c .row) e
@@ -44,7 +44,7 @@ module _ {given : Type 0} (c : Cache) (k : Kept c) where
       rest : Cache
       rest = leave (e .page) c
 
-      kept : Kept rest
+      kept : CacheInvariant rest
       kept = leave-kept (e .page) c k
 
       fewer : suc (heldIn rest) ≤ heldIn c
@@ -122,7 +122,7 @@ module _ {given : Type 0} (c : Cache) (k : Kept c) where
       n : ℕ
       n = by (c .estimate)
 
-  write-leaves : (key : ℕ) (state : PageRecord) → (given → Fit state) → state .flags ≤ allFlags
+  write-leaves : (key : ℕ) (state : PageRecord) → (given → RecordInRange state) → state .flags ≤ allFlags
       → (v : Option Entry) → find key (c .row) ≡ v → Leaves c (heldIn c) given (writeFound key state v c)
   write-leaves key state fit flags none q = leaves-same c 4 0 k
   write-leaves key state fit flags (some e) q = leaves-done c (answer 0 0 (rewrite key state c)) (inl refl) (omega arith)
@@ -151,7 +151,7 @@ delete-each-code [] c = omega arith
 delete-each-code (p ∷ ps) c = deleted-or-refused (λ (o : Outcome). o .code ≤ 7) p (deleteEach ps) c
     (delete-each-code ps (leave p c)) (λ _ _ seven. seven)
 
-delete-each-leaves : {given : Type 0} (ps : List Page) (c : Cache) → Kept c → Leaves c (length ps) given (deleteEach ps c)
+delete-each-leaves : {given : Type 0} (ps : List Page) (c : Cache) → CacheInvariant c → Leaves c (length ps) given (deleteEach ps c)
 unfolding deleteEach
 delete-each-leaves [] c k = leaves-same c 0 0 k
 delete-each-leaves {given} (p ∷ ps) c k = deleted-or-refused (Leaves c (suc (length ps)) given) p (deleteEach ps) c
@@ -164,7 +164,7 @@ delete-each-leaves {given} (p ∷ ps) c k = deleted-or-refused (Leaves c (suc (l
     low : 11 ≤ deleteEach ps rest .code → ⊥
     low high = omega (arith, delete-each-code ps rest)
 
-delete-those-leaves : {given : Type 0} (test : Page → Bool) (c : Cache) → Kept c
+delete-those-leaves : {given : Type 0} (test : Page → Bool) (c : Cache) → CacheInvariant c
     → Leaves c (heldIn c) given (deleteEach (those test (byKey (c .row))) c)
 delete-those-leaves {given} test c k =
     let ps : List Page = those test (byKey (c .row)) in
@@ -172,7 +172,7 @@ delete-those-leaves {given} test c k =
     record { kept = l .kept; listed = omega (arith, l .listed, walk-length test (c .row)); refused = l .refused; unlisted = l .unlisted }
 
 -- ── every call that passed the tests ─────────────────────────────────────────
-pub act-leaves : (call : Call) (c : Cache) → Kept c → Passes call c → Leaves c (heldIn c) (Proper call) (act call c)
+pub act-leaves : (call : Call) (c : Cache) → CacheInvariant c → Passes call c → Leaves c (heldIn c) (ArgumentsInRange call) (act call c)
 unfolding act
 act-leaves (create capacity) c k t = leaves-done c (answer 0 0 (fresh (c .size) capacity)) (inl refl) (omega arith)
     (λ _. fresh-kept (c .size) capacity (ltb-false (c .size) capacity (t .capacity)))

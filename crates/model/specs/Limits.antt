@@ -15,49 +15,49 @@ Apart number [] = Unit {0}
 Apart number (e ∷ es) = Each (λ x. number (e .page) ≢ number (x .page)) es × Apart number es
 
 -- a page record within its limits
-pub record Fit (p : PageRecord) : Type 0 where
+pub record RecordInRange (p : PageRecord) : Type 0 where
   pub pins : p .pins < 2 ^ 16
   pub holders : p .holders < 2 ^ 16
   pub cells : p .cells < 2 ^ 8
   pub frame : p .frame < 2 ^ 64
 
 -- a held page within its limits
-pub record Good (size : ℕ) (e : Entry) : Type 0 where
+pub record EntryInRange (size : ℕ) (e : Entry) : Type 0 where
   pub slot : e .page .slot < size
   pub key : e .page .key < 2 ^ 32
   pub handle : e .page .handle < 2 ^ 32
   pub flags : e .page .state .flags ≤ allFlags
-  pub fit : Fit (e .page .state)
+  pub fit : RecordInRange (e .page .state)
   pub uses : Limited e
 
-pub record Kept (c : Cache) : Type 0 where
+pub record CacheInvariant (c : Cache) : Type 0 where
   pub held : heldIn c ≤ c .size
   pub capacity : c .capacity ≤ c .size
   pub estimate : c .estimate ≤ estimateMax
-  pub good : Each (Good (c .size)) (c .row)
+  pub good : Each (EntryInRange (c .size)) (c .row)
   pub slots : Apart (λ p. p .slot) (c .row)
   pub keys : Apart (λ p. p .key) (c .row)
   pub handles : Apart (λ p. p .handle) (c .row)
 
 -- the arguments of a call are in range: 32 bits for keys and handles, a page record's fields within their limits.
 -- Flags are tested (code 2); all other numbers may have any value
-abbrev pub Proper : Call → Type 0
-Proper (create n) = Unit {0}
-Proper (insert how key handle p l) = (key < 2 ^ 32) × (handle < 2 ^ 32) × Fit p
-Proper (lookup key l) = Unit {0}
-Proper (peek key touch) = Unit {0}
-Proper (delete key l) = Unit {0}
-Proper (resize n l) = Unit {0}
-Proper (truncate limit l) = Unit {0}
-Proper (remove-frames limit l) = Unit {0}
-Proper (clear dirty-too l) = Unit {0}
-Proper (notify-dirty key) = Unit {0}
-Proper (notify-spilled key) = Unit {0}
-Proper (write key p) = Fit p
-Proper (spill most l) = Unit {0}
-Proper (evict-one l) = Unit {0}
-Proper (switch on) = Unit {0}
+abbrev pub ArgumentsInRange : Call → Type 0
+ArgumentsInRange (create n) = Unit {0}
+ArgumentsInRange (insert how key handle p l) = (key < 2 ^ 32) × (handle < 2 ^ 32) × RecordInRange p
+ArgumentsInRange (lookup key l) = Unit {0}
+ArgumentsInRange (peek key touch) = Unit {0}
+ArgumentsInRange (delete key l) = Unit {0}
+ArgumentsInRange (resize n l) = Unit {0}
+ArgumentsInRange (truncate limit l) = Unit {0}
+ArgumentsInRange (remove-frames limit l) = Unit {0}
+ArgumentsInRange (clear dirty-too l) = Unit {0}
+ArgumentsInRange (notify-dirty key) = Unit {0}
+ArgumentsInRange (notify-spilled key) = Unit {0}
+ArgumentsInRange (write key p) = RecordInRange p
+ArgumentsInRange (spill most l) = Unit {0}
+ArgumentsInRange (evict-one l) = Unit {0}
+ArgumentsInRange (switch on) = Unit {0}
 
-abbrev pub AllProper : List Call → Type 0
-AllProper [] = Unit {0}
-AllProper (call ∷ calls) = Proper call × AllProper calls
+abbrev pub AllInRange : List Call → Type 0
+AllInRange [] = Unit {0}
+AllInRange (call ∷ calls) = ArgumentsInRange call × AllInRange calls

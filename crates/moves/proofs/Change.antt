@@ -15,20 +15,20 @@ use Rattle.page.specs.declared.names.PageCacheKey.{PageCacheKey}
 use Rattle.page.specs.declared.names.PageHandle.{PageHandle}
 use Rattle.page.specs.declared.record.PageRecord.{PageRecord}
 use Rattle.pool.specs.Slots.{blank, entries}
-use Rattle.order.specs.Names.{names}
-use Rattle.order.specs.Listed.{Listed}
-use Rattle.order.specs.declared.search.By.the-variants.{Key, Handle}
-use Rattle.order.proofs.Listed.{listed-kept}
+use Rattle.sorted_index.specs.Names.{names}
+use Rattle.sorted_index.specs.Listed.{Listed}
+use Rattle.sorted_index.specs.declared.search.By.the-variants.{Key, Handle}
+use Rattle.sorted_index.proofs.Listed.{listed-kept}
 use Rattle.model.specs.Cache.{Cache, withRow, withEstimate, touch, rewritten, rewrite}
 use Rattle.model.specs.Row.{Entry, Row, Each, find, change}
 use Rattle.model.specs.Sweep.{touched}
 use Rattle.model.specs.Tests.{underOther}
 use Rattle.model.proofs.ByKey.{find-stands, stands-changed, stands-find}
 use Rattle.memory.specs.Memory.{Memory, memoryOf}
-use Rattle.memory.specs.Holds.{seen, rowOf, Seated, Fine, Holds}
+use Rattle.memory.specs.Holds.{seen, rowOf, Seated, EntryGood, Holds}
 use Rattle.memory.proofs.Columns.{written-store, bare-here, row-else, row-append}
 use Rattle.memory.proofs.Seats.{seated-store, out-parts}
-use Rattle.memory.proofs.Standing.{Standing, standing-has, each-found, each-change, holds-standing, found-inside, found-alone, found-fine}
+use Rattle.memory.proofs.Standing.{Standing, standing-has, each-found, each-change, holds-standing, found-inside, found-alone, found-good}
 use Rattle.moves.specs.Moves.{StandsAt}
 use Rattle.moves.proofs.Search.{Fits, under-each, each-under}
 
@@ -97,10 +97,10 @@ module _ {m : Memory} {head : PageCache} {c : Cache} {key s : ℕ} {e : Entry} (
         k .change-is f ∙ sym (parted ∙ row-append (set es s x) (k .front) (s ∷ k .back) ∙ (λ i. front i ++ here i ∷ back i))
 
     -- the head but for its estimate, the marks and the index by key stay; the index by handle is any that lists the seats by the new handles
-    pub changed : {head′ : PageCache} {by-handle′ : List ℕ} (f : Entry → Entry) (n : ℕ) → f e ≡ seen s x → Fine (f e) → head′ ≡ headCounting head n
+    pub changed : {head′ : PageCache} {by-handle′ : List ℕ} (f : Entry → Entry) (n : ℕ) → f e ≡ seen s x → EntryGood (f e) → head′ ≡ headCounting head n
         → length by-handle′ ≡ length (m .by-handle) → Listed (names Handle (entries slots′)) by-handle′ (H .seats)
         → Holds (memoryOf slots′ (m .by-key) by-handle′ (m .marks)) head′ (withEstimate n (withRow (change key f (c .row)) c))
-    changed f n now fine head-is long handles = record {
+    changed f n now good head-is long handles = record {
       seats = H .seats;
       lengths = record {
         slots = st .long ∙ H .lengths .slots;
@@ -124,15 +124,15 @@ module _ {m : Memory} {head : PageCache} {c : Cache} {key s : ℕ} {e : Entry} (
         some = H .limits .some;
         most = H .limits .most;
         capacity = H .limits .capacity;
-        fine = each-change Fine key (c .row) e f (at .found) fine (H .limits .fine);
+        good = each-change EntryGood key (c .row) e f (at .found) good (H .limits .good);
       };
     }
 
     -- and with the same handle it stays too
-    changed-alone : (f : Entry → Entry) → f e ≡ seen s x → Fine (f e) → x .handle ≡ getD (entries (m .slots)) s blank .handle
+    changed-alone : (f : Entry → Entry) → f e ≡ seen s x → EntryGood (f e) → x .handle ≡ getD (entries (m .slots)) s blank .handle
         → Holds (memoryOf slots′ (m .by-key) (m .by-handle) (m .marks)) head (withRow (change key f (c .row)) c)
-    changed-alone f now fine same =
-        changed f (c .estimate) now fine (λ i. headCounting head (H .headed .estimate i)) refl
+    changed-alone f now good same =
+        changed f (c .estimate) now good (λ i. headCounting head (H .headed .estimate i)) refl
         (rw (st .written) (listed-kept Handle es s (H .handles) x (ap (λ (y : PageHandle). y .0) same)))
 
 -- ── a touch and a rewriting ──────────────────────────────────────────────────
@@ -141,21 +141,21 @@ module _ {slots by-key by-handle marks : List ℕ} {head : PageCache} {c : Cache
   entry-is : e ≡ seen s (getD (entries slots) s blank)
   entry-is = holds-standing H key (at .found) (at .slot) .entry-is
 
-  fine-e : Fine e
-  fine-e = found-fine H key (at .found) (at .slot)
+  good-e : EntryGood e
+  good-e = found-good H key (at .found) (at .slot)
 
   pub touched-at : {slots′ : List ℕ} → Stored slots s (withUses (getD (entries slots) s blank) (raised (getD (entries slots) s blank .uses))) slots′
       → Holds (memoryOf slots′ by-key by-handle marks) head (touch key c)
   touched-at st =
       changed-alone H at st (record { next = refl; prev = refl; spare = refl; key = refl }) touched (ap {B = Entry} touched entry-is)
-      (record { flags = fine-e .flags; uses = min-le-left refMax (e .uses + 1) }) refl
+      (record { flags = good-e .flags; uses = min-le-left refMax (e .uses + 1) }) refl
 
   pub rewritten-at : {slots′ : List ℕ} {page : PageRecord} → page .flags ≤ allFlags
       → Stored slots s (withPage (getD (entries slots) s blank) page) slots′
       → Holds (memoryOf slots′ by-key by-handle marks) head (rewrite key page c)
   rewritten-at {page = page} flags st =
       changed-alone H at st (record { next = refl; prev = refl; spare = refl; key = refl }) (rewritten page) (ap {B = Entry} (rewritten page) entry-is)
-      (record { flags = flags; uses = fine-e .uses }) refl
+      (record { flags = flags; uses = good-e .uses }) refl
 
 -- ── an upsert touches first ──────────────────────────────────────────────────
 -- the entry stands where it stood

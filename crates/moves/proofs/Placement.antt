@@ -23,17 +23,17 @@ use Rattle.ring_links.specs.Ring.{Out, firstOf}
 use Rattle.ring_links.specs.Links.{RingOf, Linkable, linkedFirst, linkedAfter}
 use Rattle.free_marks.specs.Marks.{MarkedAs, SomeFree, LowestFree}
 use Rattle.ring_links.proofs.Columns.{linkable}
-use Rattle.order.specs.Names.{nameOf, names}
-use Rattle.order.specs.Index.{Miss, CanInsert}
-use Rattle.order.specs.Listed.{Listed, Fresh, EnlistedAt}
-use Rattle.order.specs.declared.search.By.{By}
-use Rattle.order.specs.declared.search.By.the-variants.{Key, Handle}
-use Rattle.order.proofs.Listed.{listed-seats}
+use Rattle.sorted_index.specs.Names.{nameOf, names}
+use Rattle.sorted_index.specs.Index.{Miss, CanInsert}
+use Rattle.sorted_index.specs.Listed.{Listed, Fresh, EnlistedAt}
+use Rattle.sorted_index.specs.declared.search.By.{By}
+use Rattle.sorted_index.specs.declared.search.By.the-variants.{Key, Handle}
+use Rattle.sorted_index.proofs.Listed.{listed-seats}
 use Rattle.model.specs.Cache.{Cache, heldIn, lowestFree, enterRow, newPage, enter}
 use Rattle.model.specs.Row.{Entry, Row}
 use Rattle.model.proofs.Numbers.{each-enter}
 use Rattle.memory.specs.Memory.{Memory}
-use Rattle.memory.specs.Holds.{seen, rowOf, Seated, Headed, Fine, Holds}
+use Rattle.memory.specs.Holds.{seen, rowOf, Seated, Headed, EntryGood, Holds}
 use Rattle.memory.proofs.OnceKept.{holds-held}
 use Rattle.memory.proofs.Columns.{Written, written-first, written-after, names-written, bare-here, bare-else, row-else}
 use Rattle.memory.proofs.Seats.{newSeats, has-new, seated-first, seated-after}
@@ -199,6 +199,6 @@ module _ {m : Memory} {head : PageCache} {c : Cache} (H : Holds m head c) where
         some = H .limits .some;
         most = H .limits .most;
         capacity = H .limits .capacity;
-        fine = each-enter Fine (newPage (key .0) (handle .0) page c) (c .row) (record { flags = flags; uses = zero-le }) (H .limits .fine);
+        good = each-enter EntryGood (newPage (key .0) (handle .0) page c) (c .row) (record { flags = flags; uses = zero-le }) (H .limits .good);
       };
     }

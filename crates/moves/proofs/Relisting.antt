@@ -6,10 +6,10 @@ use Prim.Native.Nat.{ℕ, _-_, _≤_, _<_}
 use native.Mathlib.Omega.{arith}
 use lib.ListN.{length, set, length-append}
 use lib.Seq.{set-getD}
-use Rattle.order.specs.Listed.{Listed, Fresh, HasRoom, Enlisted, Unlisted}
-use Rattle.order.proofs.Ascending.{ascending}
-use Rattle.order.proofs.Membership.{apart-mid, mid-has}
-use Rattle.order.proofs.Listed.{listed-index, listed-mid, seat-place}
+use Rattle.sorted_index.specs.Listed.{Listed, Fresh, HasRoom, Enlisted, Unlisted}
+use Rattle.sorted_index.proofs.Ascending.{ascending}
+use Rattle.sorted_index.proofs.Membership.{apart-mid, mid-has}
+use Rattle.sorted_index.proofs.Listed.{listed-index, listed-mid, seat-place}
 use Rattle.moves.specs.Relist.{Relistable}
 
 module _ {col order : List ℕ} {n s old new : ℕ} {before after : List ℕ} (t : Relistable col order n s old new before after) where

@@ -18,16 +18,16 @@ use Rattle.ring_links.specs.Links.{Unlinkable, Unlinked}
 use Rattle.free_marks.specs.Marks.{MarkedAs}
 use Rattle.ring_links.proofs.Rings as rings
 use Rattle.ring_links.proofs.Columns.{next-at, unlinkable}
-use Rattle.order.specs.Names.{nameOf, names}
-use Rattle.order.specs.Listed.{Listed, Unlisted}
-use Rattle.order.specs.declared.search.By.{By}
-use Rattle.order.specs.declared.search.By.the-variants.{Key, Handle}
-use Rattle.order.proofs.Names.{name-read}
-use Rattle.order.proofs.Listed.{listed-unlinked}
+use Rattle.sorted_index.specs.Names.{nameOf, names}
+use Rattle.sorted_index.specs.Listed.{Listed, Unlisted}
+use Rattle.sorted_index.specs.declared.search.By.{By}
+use Rattle.sorted_index.specs.declared.search.By.the-variants.{Key, Handle}
+use Rattle.sorted_index.proofs.Names.{name-read}
+use Rattle.sorted_index.proofs.Listed.{listed-unlinked}
 use Rattle.model.specs.Cache.{Cache, leave}
 use Rattle.model.specs.Row.{Entry, Row, without}
 use Rattle.memory.specs.Memory.{Memory}
-use Rattle.memory.specs.Holds.{Seated, Marked, Fine, Holds}
+use Rattle.memory.specs.Holds.{Seated, Marked, EntryGood, Holds}
 use Rattle.memory.proofs.Columns.{written-unlinked, row-else}
 use Rattle.memory.proofs.Seats.{seated-unlinked}
 use Rattle.memory.proofs.Marks.{marked-out, mark-inside}
@@ -144,6 +144,6 @@ module _ {m : Memory} {head : PageCache} {c : Cache} {key s : ℕ} {e : Entry} (
         some = H .limits .some;
         most = H .limits .most;
         capacity = H .limits .capacity;
-        fine = rw (k .key-is) (each-without Fine key (c .row) e (at .found) (H .limits .fine));
+        good = rw (k .key-is) (each-without EntryGood key (c .row) e (at .found) (H .limits .good));
       };
     }

@@ -13,12 +13,12 @@ use Rattle.page.specs.declared.names.PageHandle.{PageHandle}
 use Rattle.page.specs.declared.record.PageRecord.{PageRecord}
 use Rattle.pool.specs.Slots.{blank, entries}
 use Rattle.ring_links.specs.Ring.{has}
-use Rattle.order.specs.Names.{names}
-use Rattle.order.specs.Listed.{Listed, Absent}
-use Rattle.order.specs.declared.search.By.the-variants.{Key, Handle}
-use Rattle.order.proofs.Membership.{has-mid, has-there}
-use Rattle.order.proofs.Names.{name-at}
-use Rattle.order.proofs.Listed.{listed-names}
+use Rattle.sorted_index.specs.Names.{names}
+use Rattle.sorted_index.specs.Listed.{Listed, Absent}
+use Rattle.sorted_index.specs.declared.search.By.the-variants.{Key, Handle}
+use Rattle.sorted_index.proofs.Membership.{has-mid, has-there}
+use Rattle.sorted_index.proofs.Names.{name-at}
+use Rattle.sorted_index.proofs.Listed.{listed-names}
 use Rattle.model.specs.Cache.{Cache, replaced, replacedEntry, replace, countOver}
 use Rattle.model.specs.Row.{Entry, Each, find}
 use Rattle.model.specs.Tests.{underOther}
@@ -27,7 +27,7 @@ use Rattle.memory.specs.Holds.{seen, rowOf, Holds}
 use Rattle.memory.proofs.Columns.{written-store, names-written}
 use Rattle.memory.proofs.Seats.{in-out}
 use Rattle.memory.proofs.Rows.{each-seat}
-use Rattle.memory.proofs.Standing.{Standing, standing-has, holds-standing, found-inside, found-seated, found-held, found-alone, found-fine}
+use Rattle.memory.proofs.Standing.{Standing, standing-has, holds-standing, found-inside, found-seated, found-held, found-alone, found-good}
 use Rattle.moves.specs.Counting.{countedOver}
 use Rattle.moves.specs.Moves.{StandsAt}
 use Rattle.moves.specs.Relist.{Relistable, CanRelist, Relisted}
@@ -117,5 +117,5 @@ module _ {slots by-key by-handle marks : List ℕ} {head : PageCache} {c : Cache
       rw named (subst (Listed (set (names Handle es) s (handle .0)) by-handle′) (sym (k .seats-are)) relisted) in
       changed H own st (record { next = refl; prev = refl; spare = refl; key = refl }) (replacedEntry (handle .0) page)
       n (ap {B = Entry} (replacedEntry (handle .0) page) entry)
-      (record { flags = flags; uses = found-fine H key (at .found) (at .slot) .uses })
+      (record { flags = flags; uses = found-good H key (at .found) (at .slot) .uses })
       (r .head-is ∙ ap {B = PageCache} (headCounting head) counting) (r .handles-kept) listed

@@ -16,12 +16,12 @@ use Rattle.page.specs.declared.names.Slot.{Slot}
 use Rattle.page.proofs.Each.{each-weaken}
 use Rattle.pool.specs.Slots.{blank, entries}
 use Rattle.ring_links.specs.Ring.{has}
-use Rattle.order.specs.Names.{names}
-use Rattle.order.specs.Index.{Hit}
-use Rattle.order.specs.Listed.{Absent, GapFor}
-use Rattle.order.specs.declared.search.By.the-variants.{Key, Handle}
-use Rattle.order.proofs.Names.{name-at}
-use Rattle.order.proofs.Listed.{hit-seat, hit-is, miss-absent}
+use Rattle.sorted_index.specs.Names.{names}
+use Rattle.sorted_index.specs.Index.{Hit}
+use Rattle.sorted_index.specs.Listed.{Absent, GapFor}
+use Rattle.sorted_index.specs.declared.search.By.the-variants.{Key, Handle}
+use Rattle.sorted_index.proofs.Names.{name-at}
+use Rattle.sorted_index.proofs.Listed.{hit-seat, hit-is, miss-absent}
 use Rattle.model.specs.Cache.{Cache}
 use Rattle.model.specs.Row.{Entry, Row, Each, find}
 use Rattle.model.specs.Tests.{underOther}

@@ -13,9 +13,9 @@ use Rattle.page.specs.declared.entry.PageCacheEntry.{PageCacheEntry}
 use Rattle.page.specs.declared.record.PageRecord.{PageRecord}
 use Rattle.pool.specs.Slots.{entries}
 use Rattle.ring_links.specs.Links.{Linkable}
-use Rattle.order.specs.Names.{names}
-use Rattle.order.specs.Index.{Miss}
-use Rattle.order.specs.declared.search.By.the-variants.{Key, Handle}
+use Rattle.sorted_index.specs.Names.{names}
+use Rattle.sorted_index.specs.Index.{Miss}
+use Rattle.sorted_index.specs.declared.search.By.the-variants.{Key, Handle}
 use Rattle.model.specs.Cache.{Cache, heldIn, newPage, enter, leave, touch, rewrite, replace}
 use Rattle.model.specs.Row.{Entry, Row, Each, find}
 use Rattle.model.specs.Tests.{underOther}

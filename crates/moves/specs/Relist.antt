@@ -4,7 +4,7 @@ use mathlib.Core.List.{List, _∷_, _++_}
 use Prim.Native.Nat.{ℕ}
 use lib.ListN.{length, getD, set}
 use Rattle.ring_links.specs.Ring.{Apart}
-use Rattle.order.specs.Listed.{Listed, Absent}
+use Rattle.sorted_index.specs.Listed.{Listed, Absent}
 
 -- the order lists n seats, of which s has the name `old`, and no other has the name `new`
 pub record Relistable (col order : List ℕ) (n s old new : ℕ) (before after : List ℕ) : Type 0 where

@@ -1,15 +1,15 @@
 // A page changes in its place: its slot, its key and its neighbours stay.
 use crate::estimate::count_over;
-use order::By;
 use page::PageCache;
 use page::PageHandle;
 use page::PageRecord;
 use page::Slot;
+use sorted_index::By;
 ghost use Prim.Native.Nat.{_<_};
 ghost use lib.ListN.{length};
 ghost use Rattle.pool.specs.Slots.{entries};
-ghost use Rattle.order.specs.Names.{names};
-ghost use Rattle.order.specs.declared.search.By.the-variants.{Handle};
+ghost use Rattle.sorted_index.specs.Names.{names};
+ghost use Rattle.sorted_index.specs.declared.search.By.the-variants.{Handle};
 ghost use Rattle.moves.specs.Moves.{Touches, Rewritable, Rewrites, Replaceable, Replaces};
 ghost use Rattle.moves.specs.Relist.{CanRelist, Relisted};
 
@@ -64,6 +64,6 @@ fn relist(by_handle: &mut [u32], slots: &[u64], n: usize, s: Slot, old: PageHand
     if old.0 == new.0 {
         return;
     }
-    order::unlist(by_handle, slots, By::Handle, n, old.0);
-    order::enlist(by_handle, slots, By::Handle, n - 1, new.0, s);
+    sorted_index::unlist(by_handle, slots, By::Handle, n, old.0);
+    sorted_index::enlist(by_handle, slots, By::Handle, n - 1, new.0, s);
 }

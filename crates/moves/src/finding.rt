@@ -1,15 +1,15 @@
 // Where a key stands, and where a handle stands: one search of an index each. A name that isn't found has a gap, the place that it would
 // go to, and whoever places the page needs no search of its own as long as no page has come or gone since.
-use order::By;
-use order::Spot;
 use page::PageCache;
 use page::PageCacheKey;
 use page::PageHandle;
 use page::Slot;
+use sorted_index::By;
+use sorted_index::Spot;
 ghost use Rattle.pool.specs.Slots.{entries};
-ghost use Rattle.order.specs.Names.{names};
-ghost use Rattle.order.specs.Index.{Index};
-ghost use Rattle.order.specs.declared.search.By.the-variants.{Key, Handle};
+ghost use Rattle.sorted_index.specs.Names.{names};
+ghost use Rattle.sorted_index.specs.Index.{Index};
+ghost use Rattle.sorted_index.specs.declared.search.By.the-variants.{Key, Handle};
 ghost use Rattle.moves.specs.Moves.{Seats, SeatsHandle, Unseated, GapsOf};
 
 // Where a key stands: at the slot of its page, or it is absent and has a gap.
@@ -22,7 +22,7 @@ pub fn seat_of(by_key: &[u32], slots: &[u64], held: u32, key: PageCacheKey) -> S
     requires { ⌜ Index (names Key (entries (now slots))) (now «by_key») held ⌝ }
     ensures { λ r. ⌜ Seats (now («by_key» .entry)) (now (slots .entry)) held (key .0) r ⌝ }
 {
-    match order::find(by_key, slots, By::Key, held as usize, key.0) {
+    match sorted_index::find(by_key, slots, By::Key, held as usize, key.0) {
         Spot::Here(at) => {
             let s = Slot(by_key[at]);
             Seat::At(s)
@@ -48,10 +48,10 @@ pub fn seat_of_handle(
     requires { ⌜ Index (names Handle (entries (now slots))) (now «by_handle») held ⌝ }
     ensures { λ r. ⌜ SeatsHandle (now («by_handle» .entry)) (now (slots .entry)) held (key .0) (handle .0) r ⌝ }
 {
-    match order::find(by_handle, slots, By::Handle, held as usize, handle.0) {
+    match sorted_index::find(by_handle, slots, By::Handle, held as usize, handle.0) {
         Spot::Here(at) => {
             let s = Slot(by_handle[at]);
-            if order::name(slots, s, By::Key) != key.0 {
+            if sorted_index::name(slots, s, By::Key) != key.0 {
                 return HandleSeat::Elsewhere;
             }
             HandleSeat::UnderKey(s)
@@ -80,7 +80,7 @@ pub fn find_gaps(
 {
     let n = head.held as usize;
     Gaps {
-        key: order::gap(by_key, slots, By::Key, n, key.0),
-        handle: order::gap(by_handle, slots, By::Handle, n, handle.0),
+        key: sorted_index::gap(by_key, slots, By::Key, n, key.0),
+        handle: sorted_index::gap(by_handle, slots, By::Handle, n, handle.0),
     }
 }

@@ -34,8 +34,8 @@ pub fn place(
     let n = head.held as usize;
     let s = free_marks::lowest_free(marks);
     free_marks::mark_held(marks, s);
-    order::enlist_at(by_key, n, gaps.key, s);
-    order::enlist_at(by_handle, n, gaps.handle, s);
+    sorted_index::enlist_at(by_key, n, gaps.key, s);
+    sorted_index::enlist_at(by_handle, n, gaps.handle, s);
     let e = PageCacheEntry::new(key, handle, page);
     seat(slots, head, s, e);
     let estimate = count_in(head.estimate, key, page);

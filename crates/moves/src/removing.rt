@@ -1,9 +1,9 @@
 // A page goes (rule 4): out of the ring, of both indexes and of the estimate. Its slot is all zero and marked free, and the hand moves
 // on if it was there.
 use crate::estimate::count_out;
-use order::By;
 use page::PageCache;
 use page::Slot;
+use sorted_index::By;
 ghost use mathlib.Core.Path.{_≡_};
 ghost use Prim.Native.Nat.{_≤_};
 ghost use Rattle.memory.specs.Memory.{memory, memories};
@@ -24,8 +24,8 @@ pub fn remove_at_slot(
 {
     let n = head.held as usize;
     let e = pool::load(slots, s);
-    order::unlist(by_key, slots, By::Key, n, e.key.0);
-    order::unlist(by_handle, slots, By::Handle, n, e.handle.0);
+    sorted_index::unlist(by_key, slots, By::Key, n, e.key.0);
+    sorted_index::unlist(by_handle, slots, By::Handle, n, e.handle.0);
     let after = ring_links::unlink(slots, s);
     free_marks::mark_free(marks, s);
     let estimate = count_out(head.estimate, e.key, e.page);

@@ -21,5 +21,5 @@ pub fn set_spill_enabled(
     if !is_sound(slots, by_key, by_handle, marks, head) {
         return Answered::plain(Answer::NotSound, head);
     }
-    notices::set_spill_enabled(head, on)
+    caller_updates::set_spill_enabled(head, on)
 }

@@ -24,5 +24,5 @@ pub fn write_record(
     if !is_sound(slots, by_key, by_handle, marks, head) {
         return Answered::plain(Answer::NotSound, head);
     }
-    notices::write_record(slots, by_key, head, key, page)
+    caller_updates::write_record(slots, by_key, head, key, page)
 }

@@ -6,11 +6,11 @@ use Prim.Native.Nat.{ℕ}
 use lib.ListN.{length}
 use Rattle.page.specs.declared.cache.PageCache.{PageCache}
 use Rattle.pool.specs.Slots.{entries}
-use Rattle.pool.specs.Tells.{Tells}
+use Rattle.pool.specs.Decides.{Decides}
 use Rattle.memory.specs.Memory.{Memory}
 use Rattle.memory.specs.Holds.{Sound}
 use Rattle.listing.specs.Listing.{inNumbers}
-use Rattle.listing.specs.Outcome.{Comes, codeOf}
+use Rattle.listing.specs.Outcome.{ListingEffect, codeOf}
 use Rattle.listing.specs.declared.testing.Listing.{Listing}
 use Rattle.answer.specs.declared.answered.Answered.{Answered}
 use Rattle.contract.specs.Called.{State}
@@ -23,13 +23,13 @@ module _ {m : Memory} {head : List ℕ} {read : PageCache} (long : length head �
   pub tests-sound : Sound m read → Tests m head 0
   tests-sound s = sound long (subst (λ (h : PageCache). Sound m h) is s) refl
 
-  pub tests-not-sound : {b : Bool} → Tells b (Sound m read) → b ≡ false → Tests m head 1
+  pub tests-not-sound : {b : Bool} → Decides b (Sound m read) → b ≡ false → Tests m head 1
   tests-not-sound t e = not-sound long (λ s. true≢false (sym (t .whole (subst (λ (h : PageCache). Sound m h) (sym is) s)) ∙ e)) refl
 
-  pub lists-read : {list list′ : List ℕ} {answer : Listing} {code : ℕ} → Comes inNumbers m read list list′ answer → code ≡ codeOf answer
+  pub lists-read : {list list′ : List ℕ} {answer : Listing} {code : ℕ} → ListingEffect inNumbers m read list list′ answer → code ≡ codeOf answer
       → Lists m head list list′ code
   lists-read {list} {list′} {answer} came told =
-      lists answer long (subst (λ (h : PageCache). Comes inNumbers m h list list′ answer) is came) told
+      lists answer long (subst (λ (h : PageCache). ListingEffect inNumbers m h list list′ answer) is came) told
 
 pub applies-read : {bytes head answer head′ answer′ : List ℕ} {before after : State} {read : PageCache} {r : Answered} {code : ℕ}
     → length head ≡ 5 → length answer ≡ 6 → read ≡ headOf head → Applied bytes before read after r → head′ ≡ headAfter head r

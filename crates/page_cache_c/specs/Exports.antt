@@ -34,17 +34,17 @@ pub data Tests (m : Memory) (head : List ℕ) (code : ℕ) : Type 0 where
 -- the memory and the head are lent to be read
 pub data Lists (m : Memory) (head list list′ : List ℕ) (code : ℕ) : Type 0 where
   unlisted : (length head ≡ 5 → ⊥) → list′ ≡ list → code ≡ 16 → Lists m head list list′ code
-  lists : (answer : Listing) → length head ≡ 5 → listing.Comes inNumbers m (headOf head) list list′ answer
+  lists : (answer : Listing) → length head ≡ 5 → listing.ListingEffect inNumbers m (headOf head) list list′ answer
       → code ≡ listing.codeOf answer → Lists m head list list′ code
 
 -- ── pc_apply ─────────────────────────────────────────────────────────────────
 -- the head and the answer have the right lengths
-pub record Fit (h a : List ℕ) : Type 0 where
+pub record RightLengths (h a : List ℕ) : Type 0 where
   pub head : length h ≡ 5
   pub answer : length a ≡ 6
 
 pub data Applies (bytes : List ℕ) (before : State) (head answer : List ℕ) (after : State) (head′ answer′ : List ℕ) (code : ℕ) : Type 0 where
-  unapplied : (Fit head answer → ⊥) → after ≡ before → head′ ≡ head → answer′ ≡ answer → code ≡ 16
+  unapplied : (RightLengths head answer → ⊥) → after ≡ before → head′ ≡ head → answer′ ≡ answer → code ≡ 16
       → Applies bytes before head answer after head′ answer′ code
-  applies : (r : Answered) → Fit head answer → Applied bytes before (headOf head) after r → head′ ≡ headAfter head r
+  applies : (r : Answered) → RightLengths head answer → Applied bytes before (headOf head) after r → head′ ≡ headAfter head r
       → PutAnswer (entries (after .memory .slots)) r answer′ code → Applies bytes before head answer after head′ answer′ code

@@ -1,7 +1,7 @@
 // What is written of a database.
+use btree_check::Checked;
+use btree_check::Fault;
 use database_header::Database;
-use page_rules::Checked;
-use page_rules::Fault;
 use text::ROOM;
 use text::put;
 use text::put_named;

@@ -3,9 +3,9 @@ use crate::asking::Pages;
 use crate::lines;
 use crate::lines::Totals;
 use crate::messages;
+use btree_check::Checked;
 use database_header::Database;
 use input::fill;
-use page_rules::Checked;
 use text::ROOM;
 use text::next_place;
 use text::write_first;
@@ -17,7 +17,7 @@ ghost use lib.ListN.{length};
 pub const PIECE: usize = 65536;
 
 // What was found at the next place of the file.
-enum Found {
+enum NextPage {
     // What is said of the page, and how many of its bytes are there.
     Page(Checked, usize),
     End,
@@ -37,7 +37,7 @@ pub fn check_pages(fd: i32, says: &[u8], piece: &mut [u8; PIECE], database: Data
     let mut number = pages.first;
     while number <= pages.last {
         let found = read_page(fd, piece, database, number);
-        let Found::Page(checked, count) = found else {
+        let NextPage::Page(checked, count) = found else {
             return finish(says, &mut out, at, pages, totals, found);
         };
         let place = next_place(&out, at);
@@ -48,23 +48,23 @@ pub fn check_pages(fd: i32, says: &[u8], piece: &mut [u8; PIECE], database: Data
         totals = counted(totals, checked);
         number += 1;
     }
-    finish(says, &mut out, at, pages, totals, Found::End)
+    finish(says, &mut out, at, pages, totals, NextPage::End)
 }
 
-fn read_page(fd: i32, piece: &mut [u8], database: Database, number: u32) -> Found
+fn read_page(fd: i32, piece: &mut [u8], database: Database, number: u32) -> NextPage
     requires { ⌜ database .«page_size» ≤ length (now piece) ⌝ }
 {
     let page_size = database.page_size;
     let filled = fill(fd, piece, page_size as usize);
     if filled.failed {
-        return Found::Unread;
+        return NextPage::Unread;
     }
     let count = filled.count;
     if count == 0 {
-        return Found::End;
+        return NextPage::End;
     }
-    let checked = page_rules::check(&piece[..count], number, page_size, database.reserved);
-    Found::Page(checked, count)
+    let checked = btree_check::check(&piece[..count], number, page_size, database.reserved);
+    NextPage::Page(checked, count)
 }
 
 fn counted(totals: Totals, checked: Checked) -> Totals
@@ -84,11 +84,18 @@ fn counted(totals: Totals, checked: Checked) -> Totals
 }
 
 // Writes out what is left of the output. A database that could not be read to its end has no totals.
-fn finish(says: &[u8], out: &mut [u8; ROOM], at: usize, pages: Pages, totals: Totals, found: Found)
+fn finish(
+    says: &[u8],
+    out: &mut [u8; ROOM],
+    at: usize,
+    pages: Pages,
+    totals: Totals,
+    found: NextPage,
+)
     requires { ⌜ at ≤ 110000 ⌝ }
     requires { ⌜ totals .yes + totals .no ≤ 4294967295 ⌝ }
 {
-    if let Found::Unread = found {
+    if let NextPage::Unread = found {
         // Before anything else is called: the reason is that of the last call of the system that failed.
         os::fail(says);
         write_first(out, at);

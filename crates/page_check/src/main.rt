@@ -17,7 +17,7 @@
 //     lines.rt      what is written of each
 //     messages.rt   why there is nothing to write
 //
-// What can be wrong with a header is in the contract of `database_header`, and what with a page in that of `page_rules`. What is here reads
+// What can be wrong with a header is in the contract of `database_header`, and what with a page in that of `btree_check`. What is here reads
 // and writes, one page at a time, so that a database of any length takes the same memory. A page that the file's end cuts off fails by
 // its length, and the offset is that of the cut. Overflow, freelist, pointer-map and lock-byte pages are no b-tree pages, and are
 // checked like the others. Why there is nothing to write, or no more, is a line on standard error.

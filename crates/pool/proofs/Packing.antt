@@ -10,8 +10,8 @@ use lib.ListN.{length, getD, set}
 use lib.Dec.{eqb}
 use Rattle.page.specs.declared.entry.PageCacheEntry.{PageCacheEntry}
 use Rattle.pool.specs.Slots.{decode, blank, entries}
-use Rattle.pool.specs.Tells.{Tells}
-use Rattle.pool.proofs.Tells.{tells-eq, tells-as, tells-and}
+use Rattle.pool.specs.Decides.{Decides}
+use Rattle.pool.proofs.Decides.{decides-eq, decides-as, decides-and}
 
 -- ── slots and words ──────────────────────────────────────────────────────────
 -- the words of a slot are there
@@ -261,9 +261,9 @@ module _ (l : List ℕ) (s : ℕ) (inside : s < length (entries l)) where
   zero-words e = decode-once (sym (entries-at l s inside) ∙ e ∙ blank-is)
 
   pub blank-tested :
-      Tells (((eqb (getD l (s * 4) 0) 0 && eqb (getD l (s * 4 + 1) 0) 0) && eqb (getD l (s * 4 + 2) 0) 0) && eqb (getD l (s * 4 + 3) 0) 0)
+      Decides (((eqb (getD l (s * 4) 0) 0 && eqb (getD l (s * 4 + 1) 0) 0) && eqb (getD l (s * 4 + 2) 0) 0) && eqb (getD l (s * 4 + 3) 0) 0)
       (getD (entries l) s blank ≡ blank)
-  blank-tested = tells-as
-      (tells-and (tells-and (tells-and (tells-eq _ _) (tells-eq _ _)) (tells-eq _ _)) (tells-eq _ _))
+  blank-tested = decides-as
+      (decides-and (decides-and (decides-and (decides-eq _ _) (decides-eq _ _)) (decides-eq _ _)) (decides-eq _ _))
       (λ z. entries-at l s inside ∙ (λ i. decode (z .0 .0 .0 i) (z .0 .0 .1 i) (z .0 .1 i) (z .1 i)) ∙ sym blank-is)
       (λ e. let z = zero-words e in (((z .names, z .links), z .counts), z .frame))

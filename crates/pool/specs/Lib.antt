@@ -1,2 +1,2 @@
-pub mod Tells
+pub mod Decides
 pub mod Slots

@@ -8,7 +8,7 @@ ghost use mathlib.Core.Path.{_≡_};
 ghost use Prim.Native.Nat.{_<_};
 ghost use lib.ListN.{length, getD, set};
 ghost use Rattle.pool.specs.Slots.{entries, blank};
-ghost use Rattle.pool.specs.Tells.{Tells};
+ghost use Rattle.pool.specs.Decides.{Decides};
 
 // The place value of a field's lowest bit in its word. The fields below it add up to less.
 const HANDLE_UNIT: u64 = 1 << 32;
@@ -86,7 +86,7 @@ pub fn blank_entry() -> PageCacheEntry
 // Whether the slot is all zero. A held slot may be so too: only the marks say which slots are free.
 pub fn is_blank(slots: &[u64], s: Slot) -> bool
     requires { ⌜ s .0 < length (entries (now slots)) ⌝ }
-    ensures { λ r. ⌜ Tells r (getD (entries (now (slots .entry))) (s .0) blank ≡ blank) ⌝ }
+    ensures { λ r. ⌜ Decides r (getD (entries (now (slots .entry))) (s .0) blank ≡ blank) ⌝ }
 {
     let at = s.0 as usize * 4;
     (slots[at] == 0) & (slots[at + 1] == 0) & (slots[at + 2] == 0) & (slots[at + 3] == 0)

@@ -6,7 +6,7 @@ use Prim.Native.Nat.{ℕ, suc, _+_, _*_, _-_, _^_, _≤_, _<_}
 use native.Mathlib.Nat.{pow-suc, pow-le-pow-right}
 use native.Mathlib.Omega.{arith}
 use lib.ListN.{getD}
-use Rattle.replay_record.specs.Fields.{number, Readable, ReadAt}
+use Rattle.replay_record.specs.Fields.{number, NumberReadable, ReadAt}
 
 -- all but the first `left` bytes are read
 pub record Read (bytes : List ℕ) (at width left n : ℕ) : Type 0 where
@@ -21,7 +21,7 @@ read-none bytes at width = record { count = 0; rest = omega arith; value = refl;
 
 module _ {bytes : List ℕ} {at width left n : ℕ} where
   -- there is room for one byte more
-  pub read-room : Readable bytes at width → Read bytes at width left n → 0 < left → n < 256 ^ 7
+  pub read-room : NumberReadable bytes at width → Read bytes at width left n → 0 < left → n < 256 ^ 7
   read-room good r more =
       let few : r .count ≤ 7 = omega (arith, good .most, r .rest) in
       let one : 0 < 256 = omega arith in

@@ -16,7 +16,7 @@ number zero bytes at = 0
 number (suc width) bytes at = getD bytes at 0 + 256 * number width bytes (suc at)
 
 -- the bytes are there, and the number fits 64 bits
-pub record Readable (bytes : List ℕ) (at width : ℕ) : Type 0 where
+pub record NumberReadable (bytes : List ℕ) (at width : ℕ) : Type 0 where
   pub within : at + width ≤ length bytes
   pub most : width ≤ 8
 

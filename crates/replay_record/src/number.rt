@@ -1,9 +1,9 @@
 // Numbers of several bytes.
-ghost use Rattle.replay_record.specs.Fields.{Readable, ReadAt};
+ghost use Rattle.replay_record.specs.Fields.{NumberReadable, ReadAt};
 
 // The number of `width` bytes at a place, lowest byte first. It is read from the highest byte down.
 pub fn number_at(bytes: &[u8], at: usize, width: usize) -> u64
-    requires { ⌜ Readable (now bytes) at width ⌝ }
+    requires { ⌜ NumberReadable (now bytes) at width ⌝ }
     ensures { λ r. ⌜ ReadAt (now (bytes .entry)) at width r ⌝ }
 {
     let mut left = width;

@@ -17,7 +17,7 @@ use Rattle.model.proofs.Evictions.{evict-none, evict-some}
 use Rattle.memory.specs.Memory.{Memory}
 use Rattle.memory.specs.Holds.{Holds}
 use Rattle.memory.proofs.OnceKept.{holds-held}
-use Rattle.answer.specs.Answer.{plainly, Comes}
+use Rattle.answer.specs.Answer.{plainly, MatchesOutcome}
 use Rattle.answer.specs.declared.answer.Answer.the-variants.{Done, Full, Empty}
 use Rattle.answer.proofs.Steps.{comes-as, plain-comes}
 use Rattle.eviction.specs.Evict.{Takes, Refuses}
@@ -26,12 +26,12 @@ use Rattle.eviction.proofs.Step.{took-is-the-sweep, full-is-the-sweep}
 use Rattle.resizing.proofs.Following.{made-comes}
 
 module _ {m : Memory} {head : PageCache} {c : Cache} (H : Holds m head c) {list : List ℕ} where
-  pub evict-empty : head .held ≡ 0 → Comes (onEvictOne c) list m list (plainly Empty head)
+  pub evict-empty : head .held ≡ 0 → MatchesOutcome (onEvictOne c) list m list (plainly Empty head)
   evict-empty q = comes-as (evict-none c (holds-held H ∙ q)) (plain-comes Empty H list)
 
   module _ (some-held : 1 ≤ head .held) {m′ : Memory} {n : ℕ} where
     -- none may go
-    pub evict-full : Refuses c m′ n head → Comes (onEvictOne c) list m′ list (record { answer = Full; passed = n; listed = 0; head = head })
+    pub evict-full : Refuses c m′ n head → MatchesOutcome (onEvictOne c) list m′ list (record { answer = Full; passed = n; listed = 0; head = head })
     evict-full refused =
         let s = full-is-the-sweep H refused in
         let made : Made (sweeping c none (enough (evicted c))) list 0 m′ list (record { full = true; passed = n; listed = 0; head = head }) =
@@ -40,7 +40,7 @@ module _ {m : Memory} {head : PageCache} {c : Cache} (H : Holds m head c) {list 
 
     -- a page goes, and its handle is listed
     pub evict-took : {handle : PageHandle} {head′ : PageCache} → Takes c m′ handle n head′ → 1 ≤ length list
-        → Comes (onEvictOne c) list m′ (set list 0 (handle .0)) (record { answer = Done 0; passed = n; listed = 1; head = head′ })
+        → MatchesOutcome (onEvictOne c) list m′ (set list 0 (handle .0)) (record { answer = Done 0; passed = n; listed = 1; head = head′ })
     evict-took {handle} {head′} took long =
         let s = took-is-the-sweep H took in
         let room : Room = sweeping c (some (s .page)) (enough (evicted c)) in

@@ -17,7 +17,7 @@ use Rattle.memory.specs.Memory.{Memory}
 use Rattle.memory.specs.Holds.{Holds}
 use Rattle.memory.proofs.OnceKept.{holds-fits}
 use Rattle.memory.proofs.Reheaded.{reheaded}
-use Rattle.answer.specs.Answer.{plainly, Comes}
+use Rattle.answer.specs.Answer.{plainly, MatchesOutcome}
 use Rattle.answer.specs.declared.answer.Answer.the-variants.{Done, ShortList, PendingEvictions, TooLarge}
 use Rattle.answer.specs.declared.answered.Answered.{Answered}
 use Rattle.answer.proofs.Steps.{step-acts, step-too-large, step-short-list, list-short, list-long, capacity-above, capacity-within, comes-as, plain-comes}
@@ -28,16 +28,16 @@ use Rattle.resizing.proofs.Following.{made-comes}
 
 -- ── the tests ────────────────────────────────────────────────────────────────
 module _ (capacity : ℕ) {m : Memory} {head : PageCache} {c : Cache} (H : Holds m head c) {list : List ℕ} where
-  pub resize-large : length (m .by-key) < capacity → Comes (step (resize capacity (length list)) c) list m list (plainly TooLarge head)
+  pub resize-large : length (m .by-key) < capacity → MatchesOutcome (step (resize capacity (length list)) c) list m list (plainly TooLarge head)
   resize-large large = comes-as (step-too-large (resize capacity (length list)) (capacity-above H large)) (plain-comes TooLarge H list)
 
   module _ (within : capacity ≤ length (m .by-key)) where
-    pub resize-short : length list < head .held → Comes (step (resize capacity (length list)) c) list m list (plainly ShortList head)
+    pub resize-short : length list < head .held → MatchesOutcome (step (resize capacity (length list)) c) list m list (plainly ShortList head)
     resize-short short =
         comes-as (step-short-list (resize capacity (length list)) (capacity-within H within) refl (list-short H short)) (plain-comes ShortList H list)
 
-    pub resize-acts : head .held ≤ length list → {m′ : Memory} {list′ : List ℕ} {r : Answered} → Comes (onResize capacity c) list m′ list′ r
-        → Comes (step (resize capacity (length list)) c) list m′ list′ r
+    pub resize-acts : head .held ≤ length list → {m′ : Memory} {list′ : List ℕ} {r : Answered} → MatchesOutcome (onResize capacity c) list m′ list′ r
+        → MatchesOutcome (step (resize capacity (length list)) c) list m′ list′ r
     unfolding act
     resize-acts long comes = comes-as (step-acts (resize capacity (length list))
         (record { capacity = capacity-within H within; state = refl; places = list-long H long; naming = refl })) comes
@@ -64,7 +64,7 @@ ending capacity room full =
 
 module _ (capacity : ℕ) {m : Memory} {head : PageCache} {c : Cache} (H : Holds m head c) where
   -- to the same capacity
-  pub resize-same : {list : List ℕ} → capacity ≡ head .capacity → Comes (onResize capacity c) list m list (plainly (Done 0) head)
+  pub resize-same : {list : List ℕ} → capacity ≡ head .capacity → MatchesOutcome (onResize capacity c) list m list (plainly (Done 0) head)
   resize-same {list} same = comes-as (ap {B = Outcome} (rule capacity c) (eq-eqb capacity (c .capacity) (same ∙ H .headed .capacity))) (plain-comes (Done 0) H list)
 
   module _ {m′ : Memory} {list list′ : List ℕ} {r : code.Room} (made : Made (evictTo capacity c) list 0 m′ list′ r) where
@@ -77,10 +77,10 @@ module _ (capacity : ℕ) {m : Memory} {head : PageCache} {c : Cache} (H : Holds
 
     -- to another one: evictions, and the capacity only if they were enough
     pub resize-other : (capacity ≡ head .capacity → ⊥) → capacity ≤ length (m′ .by-key)
-        → Comes (onResize capacity c) list m′ list′ (resizedAs (r .full) r capacity)
+        → MatchesOutcome (onResize capacity c) list m′ list′ (resizedAs (r .full) r capacity)
     resize-other other within =
         comes-as (ap {B = Outcome} (rule capacity c) (ne-eqb capacity (c .capacity) (λ q. other (q ∙ sym (H .headed .capacity))))) (go (r .full) refl)
       where
-        go : (full : Bool) → r .full ≡ full → Comes (resized capacity (evictTo capacity c)) list m′ list′ (resizedAs full r capacity)
+        go : (full : Bool) → r .full ≡ full → MatchesOutcome (resized capacity (evictTo capacity c)) list m′ list′ (resizedAs full r capacity)
         go true q = comes-as (evictions-ended true q) (made-comes PendingEvictions made (made .holds))
         go false q = comes-as (evictions-ended false q) (made-comes (Done 0) made (holds-capacity (made .holds) within))

@@ -5,14 +5,14 @@ use Prim.Native.Nat.{ℕ, _≤_}
 use lib.ListN.{length}
 use Rattle.page.specs.declared.cache.PageCache.{PageCache}
 use Rattle.memory.specs.Memory.{Memory}
-use Rattle.answer.specs.Answer.{Ready}
+use Rattle.answer.specs.Answer.{ReadyToCall}
 use Rattle.answer.specs.declared.answer.Answer.the-variants.{Done, PendingEvictions}
 use Rattle.answer.specs.declared.answered.Answered.{Answered}
 use Rattle.eviction.specs.declared.making_room.Room as code
 
 -- the memory is sound, the list is as long as held, and the capacity is at most S
 pub record Resizable (m : Memory) (head : PageCache) (list : List ℕ) (capacity : ℕ) : Type 0 where
-  pub ready : Ready m head list
+  pub ready : ReadyToCall m head list
   pub within : capacity ≤ length (m .by-key)
 
 -- the head with another capacity

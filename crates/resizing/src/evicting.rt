@@ -10,7 +10,7 @@ ghost use Rattle.model.specs.Call as call;
 ghost use Rattle.model.specs.Step.{step};
 ghost use Rattle.memory.specs.Memory.{memory, memories};
 ghost use Rattle.memory.specs.Holds.{Holds, Sound};
-ghost use Rattle.answer.specs.Answer.{Ready, Comes};
+ghost use Rattle.answer.specs.Answer.{ReadyToCall, MatchesOutcome};
 
 // Evicts one page, if one may go, and lists its handle.
 pub fn evict(
@@ -22,7 +22,7 @@ pub fn evict(
     head: PageCache,
 ) -> Answered
     requires { ⌜ Sound (memory slots «by_key» «by_handle» marks) head ⌝ }
-    ensures { λ r. let m = memories slots «by_key» «by_handle» marks in ⌜ ((c : Cache) → Holds (m .entry) head c → Comes (step (call.evict-one (length (now (list .entry)))) c) (now (list .entry)) (m .exit) (now (list .exit)) r) ⌝ }
+    ensures { λ r. let m = memories slots «by_key» «by_handle» marks in ⌜ ((c : Cache) → Holds (m .entry) head c → MatchesOutcome (step (call.evict-one (length (now (list .entry)))) c) (now (list .entry)) (m .exit) (now (list .exit)) r) ⌝ }
 {
     if list.len() < head.held as usize {
         return Answered::plain(Answer::ShortList, head);
@@ -39,8 +39,8 @@ fn evict_listed(
     list: &mut [u32],
     head: PageCache,
 ) -> Answered
-    requires { ⌜ Ready (memory slots «by_key» «by_handle» marks) head (now list) ⌝ }
-    ensures { λ r. let m = memories slots «by_key» «by_handle» marks in ⌜ ((c : Cache) → Holds (m .entry) head c → Comes (onEvictOne c) (now (list .entry)) (m .exit) (now (list .exit)) r) ⌝ }
+    requires { ⌜ ReadyToCall (memory slots «by_key» «by_handle» marks) head (now list) ⌝ }
+    ensures { λ r. let m = memories slots «by_key» «by_handle» marks in ⌜ ((c : Cache) → Holds (m .entry) head c → MatchesOutcome (onEvictOne c) (now (list .entry)) (m .exit) (now (list .exit)) r) ⌝ }
 {
     if head.held == 0 {
         return Answered::plain(Answer::Empty, head);

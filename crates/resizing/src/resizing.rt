@@ -12,7 +12,7 @@ ghost use Rattle.model.specs.Call as call;
 ghost use Rattle.model.specs.Step.{step};
 ghost use Rattle.memory.specs.Memory.{memory, memories};
 ghost use Rattle.memory.specs.Holds.{Holds, Sound};
-ghost use Rattle.answer.specs.Answer.{Comes};
+ghost use Rattle.answer.specs.Answer.{MatchesOutcome};
 ghost use Rattle.resizing.specs.Resize.{Resizable, resizedAs};
 
 // Evicts until no more pages are held than the new capacity, and sets it. If none of those that are left may go, the capacity
@@ -27,7 +27,7 @@ pub fn resize(
     capacity: u64,
 ) -> Answered
     requires { ⌜ Sound (memory slots «by_key» «by_handle» marks) head ⌝ }
-    ensures { λ r. let m = memories slots «by_key» «by_handle» marks in ⌜ ((c : Cache) → Holds (m .entry) head c → Comes (step (call.resize capacity (length (now (list .entry)))) c) (now (list .entry)) (m .exit) (now (list .exit)) r) ⌝ }
+    ensures { λ r. let m = memories slots «by_key» «by_handle» marks in ⌜ ((c : Cache) → Holds (m .entry) head c → MatchesOutcome (step (call.resize capacity (length (now (list .entry)))) c) (now (list .entry)) (m .exit) (now (list .exit)) r) ⌝ }
 {
     if capacity > by_key.len() as u64 {
         return Answered::plain(Answer::TooLarge, head);
@@ -49,7 +49,7 @@ fn resize_within(
     capacity: u32,
 ) -> Answered
     requires { ⌜ Resizable (memory slots «by_key» «by_handle» marks) head (now list) capacity ⌝ }
-    ensures { λ r. let m = memories slots «by_key» «by_handle» marks in ⌜ ((c : Cache) → Holds (m .entry) head c → Comes (onResize capacity c) (now (list .entry)) (m .exit) (now (list .exit)) r) ⌝ }
+    ensures { λ r. let m = memories slots «by_key» «by_handle» marks in ⌜ ((c : Cache) → Holds (m .entry) head c → MatchesOutcome (onResize capacity c) (now (list .entry)) (m .exit) (now (list .exit)) r) ⌝ }
 {
     if capacity == head.capacity {
         return Answered::plain(Answer::Done(0), head);

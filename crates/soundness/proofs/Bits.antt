@@ -12,10 +12,10 @@ use lib.ListN.{length, getD, List·getD-eq-default}
 use Rattle.page.specs.declared.entry.PageCacheEntry.{PageCacheEntry}
 use Rattle.free_marks.specs.Marks.{bitAt}
 use Rattle.pool.specs.Slots.{blank}
-use Rattle.pool.specs.Tells.{Tells}
+use Rattle.pool.specs.Decides.{Decides}
 use Rattle.free_marks.proofs.Digits.{digit, digit-of-none, digits-once}
-use Rattle.pool.proofs.Tells.{tells-yes, tells-eq, tells-as}
-use Rattle.soundness.specs.Checks.{MarksFit, Beyond, Filled, Proper}
+use Rattle.pool.proofs.Decides.{decides-yes, decides-eq, decides-as}
+use Rattle.soundness.specs.Checks.{MarksFit, Beyond, HeldEntryGood, SlotGood}
 
 -- ── one mark ─────────────────────────────────────────────────────────────────
 remainder : (x : ℕ) → x % 2 ≤ 1
@@ -31,7 +31,7 @@ bit-one m k ne = go (bitAt m k) (bit-limit m k) ne
     go x h ne = omega arith
 
 -- what the answer of `is_free` says of a mark
-module _ {mark : ℕ} {free : Bool} (t : Tells free (mark ≡ 1)) where
+module _ {mark : ℕ} {free : Bool} (t : Decides free (mark ≡ 1)) where
   pub free-marked : free ≡ true → mark ≡ 0 → ⊥
   free-marked e z = omega (arith, t .right e)
 
@@ -40,11 +40,11 @@ module _ {mark : ℕ} {free : Bool} (t : Tells free (mark ≡ 1)) where
 
   -- and so of a slot that is looked at by it
   module _ {e : PageCacheEntry} {answer : Bool} where
-    pub proper-free : free ≡ true → Tells answer (e ≡ blank) → Tells answer (Proper mark e)
-    proper-free f b = tells-as b (λ p. record { held = λ z. absurd (free-marked f z); free = λ _. p }) (λ p. p .free (t .right f))
+    pub free-slot-good : free ≡ true → Decides answer (e ≡ blank) → Decides answer (SlotGood mark e)
+    free-slot-good f b = decides-as b (λ p. record { held = λ z. absurd (free-marked f z); free = λ _. p }) (λ p. p .free (t .right f))
 
-    pub proper-held : mark ≤ 1 → free ≡ false → {read : PageCacheEntry} → read ≡ e → Tells answer (Filled read) → Tells answer (Proper mark e)
-    proper-held h f r b = tells-as (rw r at b)
+    pub held-slot-good : mark ≤ 1 → free ≡ false → {read : PageCacheEntry} → read ≡ e → Decides answer (HeldEntryGood read) → Decides answer (SlotGood mark e)
+    held-slot-good h f r b = decides-as (rw r at b)
         (λ p. record { held = λ _. p; free = λ o. absurd (true≢false (sym (t .whole o) ∙ f)) }) (λ p. p .held (held-unmarked h f))
 
 pub bit-past : (m : List ℕ) (k : ℕ) → length m ≤ k / 64 → bitAt m k ≡ 0
@@ -57,8 +57,8 @@ digit-shifted x b i = ap (λ (y : ℕ). y % 2) (shr-shr x b i)
 
 module _ {m : List ℕ} {size : ℕ} (fit : MarksFit m size) where
   -- there is no last word that is used in part
-  pub beyond-none : length m ≤ size / 64 → Tells true (Beyond m size)
-  beyond-none h = tells-yes record { clear = λ k g. bit-past m k (omega arith) }
+  pub beyond-none : length m ≤ size / 64 → Decides true (Beyond m size)
+  beyond-none h = decides-yes record { clear = λ k g. bit-past m k (omega arith) }
 
   abbrev word : ℕ
   word = getD m (size / 64) 0
@@ -88,5 +88,5 @@ module _ {m : List ℕ} {size : ℕ} (fit : MarksFit m size) where
             let b : (size + i) % 64 ≡ size % 64 + i = omega arith in
             (λ t. digit (getD m (sym w t) 0) (sym b t)) ∙ f (size + i) (omega arith)
 
-    pub beyond-tested : Tells (eqb (word / 2 ^ (size % 64)) 0) (Beyond m size)
-    beyond-tested = tells-as (tells-eq (word / 2 ^ (size % 64)) 0) (λ e. record { clear = clear-beyond e }) (λ f. beyond-clear (f .clear))
+    pub beyond-tested : Decides (eqb (word / 2 ^ (size % 64)) 0) (Beyond m size)
+    beyond-tested = decides-as (decides-eq (word / 2 ^ (size % 64)) 0) (λ e. record { clear = clear-beyond e }) (λ f. beyond-clear (f .clear))

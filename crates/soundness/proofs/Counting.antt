@@ -12,7 +12,7 @@ use lib.ListN.{length}
 use borrow.Author.Tests.{eq-eqb, ne-eqb}
 use Rattle.page.specs.All.{All}
 use Rattle.ring_links.specs.Ring.{has, Out, Apart}
-use Rattle.order.proofs.Membership.{has-here, has-there, has-skip, has-cons, out-has}
+use Rattle.sorted_index.proofs.Membership.{has-here, has-there, has-skip, has-cons, out-has}
 use Rattle.soundness.specs.Checks.{tick, countBelow}
 
 -- ── the test without one number ──────────────────────────────────────────────

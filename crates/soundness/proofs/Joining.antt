@@ -18,27 +18,27 @@ use Rattle.page.proofs.Each.{each-weaken}
 use Rattle.free_marks.specs.Marks.{bitAt}
 use Rattle.ring_links.specs.Ring.{has, Out, Apart, Below}
 use Rattle.pool.specs.Slots.{blank, entries}
-use Rattle.pool.specs.Tells.{Tells}
+use Rattle.pool.specs.Decides.{Decides}
 use Rattle.ring_links.proofs.Columns.{next-at, prev-at}
 use Rattle.pool.proofs.Packing.{entries-whole}
-use Rattle.pool.proofs.Tells.{tells-as}
-use Rattle.order.specs.Index.{Index}
-use Rattle.order.specs.Listed.{Listed}
-use Rattle.order.specs.Names.{names, nameOf}
-use Rattle.order.specs.declared.search.By.{By}
-use Rattle.order.specs.declared.search.By.the-variants.{Key, Handle}
-use Rattle.order.proofs.Lists.{all-of}
-use Rattle.order.proofs.Membership.{has-out, out-has, has-skip}
-use Rattle.order.proofs.Ascending.{ascending, asc-apart, index-places, index-clear}
-use Rattle.order.proofs.Listed.{listed-index, place-seat}
+use Rattle.pool.proofs.Decides.{decides-as}
+use Rattle.sorted_index.specs.Index.{Index}
+use Rattle.sorted_index.specs.Listed.{Listed}
+use Rattle.sorted_index.specs.Names.{names, nameOf}
+use Rattle.sorted_index.specs.declared.search.By.{By}
+use Rattle.sorted_index.specs.declared.search.By.the-variants.{Key, Handle}
+use Rattle.sorted_index.proofs.Lists.{all-of}
+use Rattle.sorted_index.proofs.Membership.{has-out, out-has, has-skip}
+use Rattle.sorted_index.proofs.Ascending.{ascending, asc-apart, index-places, index-clear}
+use Rattle.sorted_index.proofs.Listed.{listed-index, place-seat}
 use Rattle.model.specs.Cache.{Cache}
 use Rattle.model.specs.Row.{Each}
 use Rattle.memory.specs.Memory.{Memory}
-use Rattle.memory.specs.Holds.{Lengths, Seated, rowOf, Marked, Fine, Holds, Sound}
+use Rattle.memory.specs.Holds.{Lengths, Seated, rowOf, Marked, EntryGood, Holds, Sound}
 use Rattle.memory.proofs.Rows.{each-seat, seat-each}
 use Rattle.memory.proofs.Seats.{blank-spare}
 use Rattle.memory.proofs.Standing.{holds-size}
-use Rattle.soundness.specs.Checks.{Agreeing, InRange, MarksFit, unmarked, Counted, Readable, Taken, Walked, Orderable, Lists, Filled, AllProper, Checked}
+use Rattle.soundness.specs.Checks.{Agreeing, InRange, MarksFit, unmarked, Counted, SlotsReadable, Taken, Walked, Orderable, IndexGood, HeldEntryGood, AllSlotsGood, Checked}
 use Rattle.soundness.proofs.Passes.{lt-or-le}
 use Rattle.soundness.proofs.Bits.{bit-one}
 use Rattle.soundness.proofs.Counting.{all-has, has-all, covers, as-many}
@@ -101,7 +101,7 @@ module _ (m : Memory) (head : PageCache) (ch : Checked m head) where
       (λ (l : size ≤ k). List·getD-eq-default es blank (omega (arith, es-long)))
       (lt-or-le k size)
 
-  filled : (k : ℕ) → has k seats ≡ true → Filled (getD es k blank)
+  filled : (k : ℕ) → has k seats ≡ true → HeldEntryGood (getD es k blank)
   filled k e = let t = all-has (Taken (m .marks) size) seats seats-taken k e in ch .slots k (t .inside) .held (t .held)
 
   spare : (k : ℕ) → getD es k blank .spare ≡ 0
@@ -125,7 +125,7 @@ module _ (m : Memory) (head : PageCache) (ch : Checked m head) where
     spare = spare;
   }
 
-  module _ (by : By) (order : List ℕ) (long : length order ≡ size) (g : Lists (names by es) order (m .marks) (head .held)) where
+  module _ (by : By) (order : List ℕ) (long : length order ≡ size) (g : IndexGood (names by es) order (m .marks) (head .held)) where
     abbrev used : List ℕ
     used = take (head .held) order
 
@@ -180,7 +180,7 @@ module _ (m : Memory) (head : PageCache) (ch : Checked m head) where
       some = ch .agreeing .some;
       most = ch .agreeing .most;
       capacity = ch .range .capacity;
-      fine = seat-each Fine es seats (λ k h. record { flags = filled k h .flags; uses = filled k h .uses });
+      good = seat-each EntryGood es seats (λ k h. record { flags = filled k h .flags; uses = filled k h .uses });
     };
   }
 
@@ -216,7 +216,7 @@ module _ {m : Memory} {head : PageCache} {c : Cache} (hd : Holds m head c) where
       go true e = absurd (omega arith)
       go false e = refl
 
-  sound-lists : (by : By) (order : List ℕ) → length order ≡ c .size → Listed (names by sound-es) order (hd .seats) → Lists (names by sound-es) order (m .marks) (head .held)
+  sound-lists : (by : By) (order : List ℕ) → length order ≡ c .size → Listed (names by sound-es) order (hd .seats) → IndexGood (names by sound-es) order (m .marks) (head .held)
   sound-lists by order long l =
       let index = listed-index l (sym (hd .headed .held)) in
       record {
@@ -227,10 +227,10 @@ module _ {m : Memory} {head : PageCache} {c : Cache} (hd : Holds m head c) where
         clear = index-clear index;
       }
 
-  sound-slots : AllProper sound-es (m .marks) (c .size)
+  sound-slots : AllSlotsGood sound-es (m .marks) (c .size)
   sound-slots k l = record {
     held = λ z.
-        let t = each-seat Fine sound-es (hd .seats) (subst (Each Fine) (hd .row) (hd .limits .fine)) k (unmarked-seat k l z) in
+        let t = each-seat EntryGood sound-es (hd .seats) (subst (Each EntryGood) (hd .row) (hd .limits .good)) k (unmarked-seat k l z) in
         record { uses = t .uses; flags = t .flags; spare = hd .seated .spare k };
     free = λ z. hd .seated .vacant k (out-has k (hd .seats) (marked-none k l z));
   }
@@ -275,7 +275,7 @@ module _ {m : Memory} {head : PageCache} {c : Cache} (hd : Holds m head c) where
         ring = sound-ring;
         keys = sound-lists Key (m .by-key) (hd .lengths .by-key) (hd .keys);
         handles = sound-lists Handle (m .by-handle) (hd .lengths .by-handle) (hd .handles);
-        slots = subst (AllProper sound-es (m .marks)) size sound-slots;
+        slots = subst (AllSlotsGood sound-es (m .marks)) size sound-slots;
       }
 
 pub sound-checked : {m : Memory} {head : PageCache} → Sound m head → Checked m head
@@ -294,7 +294,7 @@ module _ {m : Memory} (a : Agreeing m) where
   pub marks-fit : MarksFit (m .marks) (length (m .by-key))
   marks-fit = record { words = a .lengths .marks; most = a .most }
 
-  pub readable : Readable (m .slots) (m .marks) (length (m .by-key))
+  pub readable : SlotsReadable (m .slots) (m .marks) (length (m .by-key))
   readable = record {
     each-entry = sym (entries-whole (length (m .by-key)) (m .slots) (a .lengths .slots));
     each-mark = omega (arith, a .lengths .marks);
@@ -306,16 +306,16 @@ module _ {m : Memory} (a : Agreeing m) where
 
     pub handles-orderable : Orderable (m .by-handle) (m .slots) (m .marks) (head .held)
     handles-orderable = record {
-      readable = subst (Readable (m .slots) (m .marks)) (sym (a .lengths .by-handle)) readable;
+      readable = subst (SlotsReadable (m .slots) (m .marks)) (sym (a .lengths .by-handle)) readable;
       fits = omega (arith, r .held, a .lengths .by-handle);
     }
 
     -- all passes but the last said yes: the last one decides
     pub last-decides : {answer : Bool} → Counted (m .marks) (length (m .by-key)) (head .held)
         → Walked (entries (m .slots)) (m .marks) (head .held) (head .hand .0)
-        → Lists (names Key (entries (m .slots))) (m .by-key) (m .marks) (head .held)
-        → Lists (names Handle (entries (m .slots))) (m .by-handle) (m .marks) (head .held)
-        → Tells answer (AllProper (entries (m .slots)) (m .marks) (length (m .by-key))) → Tells answer (Sound m head)
-    last-decides marks ring keys handles t = tells-as t
+        → IndexGood (names Key (entries (m .slots))) (m .by-key) (m .marks) (head .held)
+        → IndexGood (names Handle (entries (m .slots))) (m .by-handle) (m .marks) (head .held)
+        → Decides answer (AllSlotsGood (entries (m .slots)) (m .marks) (length (m .by-key))) → Decides answer (Sound m head)
+    last-decides marks ring keys handles t = decides-as t
         (λ s. checked-sound m head record { agreeing = a; range = r; marks = marks; ring = ring; keys = keys; handles = handles; slots = s })
         (λ s. sound-checked s .slots)

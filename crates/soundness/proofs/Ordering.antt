@@ -9,9 +9,9 @@ use native.Mathlib.Numerals.{add-one}
 use native.Mathlib.Omega.{arith}
 use lib.ListN.{length, getD}
 use Rattle.free_marks.specs.Marks.{bitAt}
-use Rattle.pool.specs.Tells.{Tells}
-use Rattle.pool.proofs.Tells.{tells-yes, tells-no}
-use Rattle.order.specs.Index.{nameAt}
+use Rattle.pool.specs.Decides.{Decides}
+use Rattle.pool.proofs.Decides.{decides-yes, decides-no}
+use Rattle.sorted_index.specs.Index.{nameAt}
 use Rattle.soundness.specs.Checks.{Taken, Ordered}
 use Rattle.soundness.proofs.Bits.{bit-limit, free-marked, held-unmarked}
 
@@ -26,23 +26,23 @@ pub ordered-none : {col order m : List ℕ} → OrderedTo col order m 0 0
 ordered-none = record { taken = λ j h. absurd (omega arith); up = λ j h. absurd (omega arith); none = λ _. refl; last = λ j e. absurd (omega arith) }
 
 module _ {col order m : List ℕ} {least i : ℕ} (t : OrderedTo col order m least i) where
-  pub ordered-yes : {n : ℕ} → n ≤ i → Tells true (Ordered col order m n)
-  ordered-yes l = tells-yes record { taken = λ j h. t .taken j (omega arith); up = λ j h. t .up j (omega arith) }
+  pub ordered-yes : {n : ℕ} → n ≤ i → Decides true (Ordered col order m n)
+  ordered-yes l = decides-yes record { taken = λ j h. t .taken j (omega arith); up = λ j h. t .up j (omega arith) }
 
   module _ {n : ℕ} (l : i < n) where
     -- what stands at place i is no slot of the pool
-    pub ordered-wild : length order ≤ getD order i 0 → Tells false (Ordered col order m n)
-    ordered-wild h = tells-no (λ g. omega (arith, g .taken i l .inside))
+    pub ordered-wild : length order ≤ getD order i 0 → Decides false (Ordered col order m n)
+    ordered-wild h = decides-no (λ g. omega (arith, g .taken i l .inside))
 
-    module _ {free : Bool} (f : Tells free (bitAt m (getD order i 0) ≡ 1)) where
+    module _ {free : Bool} (f : Decides free (bitAt m (getD order i 0) ≡ 1)) where
       -- or a free one
-      pub ordered-free : free ≡ true → Tells false (Ordered col order m n)
-      ordered-free e = tells-no (λ g. free-marked f e (g .taken i l .held))
+      pub ordered-free : free ≡ true → Decides false (Ordered col order m n)
+      ordered-free e = decides-no (λ g. free-marked f e (g .taken i l .held))
 
       module _ {x : ℕ} (q : x ≡ nameAt col order i) where
         -- or its name is not above the last
-        pub ordered-low : x < least → Tells false (Ordered col order m n)
-        ordered-low h = tells-no (λ g. go i refl g)
+        pub ordered-low : x < least → Decides false (Ordered col order m n)
+        ordered-low h = decides-no (λ g. go i refl g)
           where
             go : (k : ℕ) → k ≡ i → Ordered col order m n → ⊥
             go zero e g = omega (arith, t .none (sym e))

@@ -10,11 +10,11 @@ use native.Mathlib.Numerals.{add-one}
 use native.Mathlib.Omega.{arith}
 use lib.Dec.{leb}
 use borrow.Author.Tests.{le-leb, leb-true}
-use Rattle.pool.specs.Tells.{Tells}
-use Rattle.pool.proofs.Tells.{tells-yes, tells-no}
+use Rattle.pool.specs.Decides.{Decides}
+use Rattle.pool.proofs.Decides.{decides-yes, decides-no}
 
-pub tells-le : (a b : ℕ) → Tells (leb a b) (a ≤ b)
-tells-le a b = record { right = λ e. leb-true a b e; whole = λ h. le-leb a b h }
+pub decides-le : (a b : ℕ) → Decides (leb a b) (a ≤ b)
+decides-le a b = record { right = λ e. leb-true a b e; whole = λ h. le-leb a b h }
 
 pub lt-or-le : (a b : ℕ) → (a < b) ⊎ (b ≤ a)
 lt-or-le a b = go (decLt a b)
@@ -38,16 +38,16 @@ module _ {P : ℕ → Type 0} {a i : ℕ} (u : Upto P a i) where
     each = λ j g h. ⊎-elim (λ (e : j ≡ i). rw e p) (λ (l : j < i). u .each j g l) (eq-or-lt-of-le (le-of-suc-le-suc (rw add-one at h)));
   }
 
-  pub upto-yes : {end : ℕ} → end ≤ i → Tells true ((j : ℕ) → a ≤ j → j < end → P j)
-  upto-yes l = tells-yes (λ j g h. u .each j g (omega arith))
+  pub upto-yes : {end : ℕ} → end ≤ i → Decides true ((j : ℕ) → a ≤ j → j < end → P j)
+  upto-yes l = decides-yes (λ j g h. u .each j g (omega arith))
 
-  pub upto-no : {end : ℕ} → i < end → (P i → ⊥) → Tells false ((j : ℕ) → a ≤ j → j < end → P j)
-  upto-no l n = tells-no (λ f. n (f i (u .from) l))
+  pub upto-no : {end : ℕ} → i < end → (P i → ⊥) → Decides false ((j : ℕ) → a ≤ j → j < end → P j)
+  upto-no l n = decides-no (λ f. n (f i (u .from) l))
 
 -- from 0 on
 module _ {P : ℕ → Type 0} {i : ℕ} (u : Upto P 0 i) where
-  pub all-yes : {end : ℕ} → end ≤ i → Tells true ((j : ℕ) → j < end → P j)
-  all-yes l = tells-yes (λ j h. u .each j (omega arith) (omega arith))
+  pub all-yes : {end : ℕ} → end ≤ i → Decides true ((j : ℕ) → j < end → P j)
+  all-yes l = decides-yes (λ j h. u .each j (omega arith) (omega arith))
 
-  pub all-no : {end : ℕ} → i < end → (P i → ⊥) → Tells false ((j : ℕ) → j < end → P j)
-  all-no l n = tells-no (λ f. n (f i l))
+  pub all-no : {end : ℕ} → i < end → (P i → ⊥) → Decides false ((j : ℕ) → j < end → P j)
+  all-no l n = decides-no (λ f. n (f i l))

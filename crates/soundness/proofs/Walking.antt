@@ -15,9 +15,9 @@ use Rattle.ring_links.specs.Links.{nexts, prevs, nextAt, prevAt}
 use Rattle.free_marks.specs.Marks.{bitAt}
 use Rattle.ring_links.specs.Ring.{Out, Apart, Way, Round, firstOf}
 use Rattle.pool.specs.Slots.{blank}
-use Rattle.pool.specs.Tells.{Tells}
+use Rattle.pool.specs.Decides.{Decides}
 use Rattle.ring_links.proofs.Columns.{next-at, prev-at}
-use Rattle.pool.proofs.Tells.{tells-no}
+use Rattle.pool.proofs.Decides.{decides-no}
 use Rattle.soundness.specs.Checks.{Taken, Walked}
 use Rattle.soundness.proofs.Bits.{bit-limit, free-marked, held-unmarked}
 
@@ -124,26 +124,26 @@ pub walking-start : {es : List PageCacheEntry} {m : List ℕ} {n z : ℕ} → z 
 walking-start h = record { inside = h; on = λ t. t; back = λ t. t }
 
 module _ {es : List PageCacheEntry} {m : List ℕ} {n z k a : ℕ} (i : Walking es m n z k a) (some : 1 ≤ n) where
-  no-walk : (Rest es m z k a → ⊥) → Tells false (Walked es m n z)
-  no-walk f = tells-no (λ w. f (i .back (walked-rest some w)))
+  no-walk : (Rest es m z k a → ⊥) → Decides false (Walked es m n z)
+  no-walk f = decides-no (λ w. f (i .back (walked-rest some w)))
 
   -- all slots are used up, and the walk is not back
-  pub walking-out : k ≡ 0 → Tells false (Walked es m n z)
+  pub walking-out : k ≡ 0 → Decides false (Walked es m n z)
   walking-out e = no-walk (λ t. omega (arith, t .long))
 
-  module _ {free : Bool} (t : Tells free (bitAt m a ≡ 1)) where
-    pub walking-free : free ≡ true → Tells false (Walked es m n z)
+  module _ {free : Bool} (t : Decides free (bitAt m a ≡ 1)) where
+    pub walking-free : free ≡ true → Decides false (Walked es m n z)
     walking-free e = no-walk (λ r. free-marked t e (rest-taken r .held))
 
     module _ {next : ℕ} (r : next ≡ nextAt es a) where
-      pub walking-wild : z < length es → length es ≤ next → Tells false (Walked es m n z)
+      pub walking-wild : z < length es → length es ≤ next → Decides false (Walked es m n z)
       walking-wild h l = no-walk (λ t. less (rest-next h t) (rw r at l))
         where
           less : {x y : ℕ} → x < y → y ≤ x → ⊥
           less p q = omega arith
 
       module _ {f : PageCacheEntry} (s : f ≡ getD es next blank) where
-        pub walking-cut : (f .prev .0 ≡ a → ⊥) → Tells false (Walked es m n z)
+        pub walking-cut : (f .prev .0 ≡ a → ⊥) → Decides false (Walked es m n z)
         walking-cut ne = no-walk (λ t. ne (rw (s, r) (rest-back t)))
 
         module _ (held : free ≡ false) (inverse : f .prev .0 ≡ a) where
@@ -151,7 +151,7 @@ module _ {es : List PageCacheEntry} {m : List ℕ} {n z k a : ℕ} (i : Walking 
           here = record { inside = i .inside; held = held-unmarked t (bit-limit m a) held }
 
           -- back at the start: at the end, or too soon
-          pub walking-home : next ≡ z → 1 ≤ k → Tells (eqb (k - 1) 0) (Walked es m n z)
+          pub walking-home : next ≡ z → 1 ≤ k → Decides (eqb (k - 1) 0) (Walked es m n z)
           walking-home h l = record {
             right = λ u. rest-walked (i .on (rest-end (last (eqb-true _ _ u)) here (rw r at h) (rw (s, r) at inverse)));
             whole = λ w. eq-eqb (k - 1) 0 (one (rest-last (i .back (walked-rest some w)) (rw r at h)));
@@ -174,7 +174,7 @@ module _ {es : List PageCacheEntry} {m : List ℕ} {n z k a : ℕ} (i : Walking 
               more = omega arith
 
 -- ── nothing to walk, and a hand that is no slot ──────────────────────────────
-pub walked-none : {es : List PageCacheEntry} {m : List ℕ} {n hand : ℕ} → n ≡ 0 → Tells (eqb hand 0) (Walked es m n hand)
+pub walked-none : {es : List PageCacheEntry} {m : List ℕ} {n hand : ℕ} → n ≡ 0 → Decides (eqb hand 0) (Walked es m n hand)
 walked-none {es} {m} {n} {hand} z = record {
   right = λ e. record { seats = []; long = sym z; first = eqb-true hand 0 e; round = tt; apart = tt; taken = tt };
   whole = λ w. eq-eqb hand 0 (go (w .seats) (w .long) (w .first));
@@ -184,5 +184,5 @@ walked-none {es} {m} {n} {hand} z = record {
     go [] q e = e
     go (x ∷ l) q e = absurd (omega arith)
 
-pub walked-outside : {es : List PageCacheEntry} {m : List ℕ} {n hand : ℕ} → (n ≡ 0 → ⊥) → length es ≤ hand → Tells false (Walked es m n hand)
-walked-outside ne l = tells-no (λ w. omega (arith, rest-taken (walked-rest (omega arith) w) .inside))
+pub walked-outside : {es : List PageCacheEntry} {m : List ℕ} {n hand : ℕ} → (n ≡ 0 → ⊥) → length es ≤ hand → Decides false (Walked es m n hand)
+walked-outside ne l = decides-no (λ w. omega (arith, rest-taken (walked-rest (omega arith) w) .inside))

@@ -16,9 +16,9 @@ use Rattle.ring_links.specs.Links.{nexts, prevs}
 use Rattle.free_marks.specs.Marks.{bitAt}
 use Rattle.ring_links.specs.Ring.{Apart, Round, firstOf}
 use Rattle.pool.specs.Slots.{blank, entries}
-use Rattle.order.specs.Index.{nameAt}
-use Rattle.order.specs.Names.{names}
-use Rattle.order.specs.declared.search.By.the-variants.{Key, Handle}
+use Rattle.sorted_index.specs.Index.{nameAt}
+use Rattle.sorted_index.specs.Names.{names}
+use Rattle.sorted_index.specs.declared.search.By.the-variants.{Key, Handle}
 use Rattle.memory.specs.Memory.{Memory}
 use Rattle.memory.specs.Holds.{Lengths}
 
@@ -71,11 +71,11 @@ pub record Counted (marks : List ℕ) (size held : ℕ) : Type 0 where
 
 -- ── slots that may be looked at ──────────────────────────────────────────────
 -- the slots below the size have an entry and a mark
-pub record Readable (slots marks : List ℕ) (size : ℕ) : Type 0 where
+pub record SlotsReadable (slots marks : List ℕ) (size : ℕ) : Type 0 where
   pub each-entry : size ≡ length (entries slots)
   pub each-mark : size ≤ 64 * length marks
 
-pub record ReadableAt (slots marks : List ℕ) (s : ℕ) : Type 0 where
+pub record SlotReadable (slots marks : List ℕ) (s : ℕ) : Type 0 where
   pub entry : s < length (entries slots)
   pub mark : s / 64 < length marks
 
@@ -96,14 +96,14 @@ pub record Walked (es : List PageCacheEntry) (marks : List ℕ) (n hand : ℕ) :
 
 -- at least one slot is held, and the hand is in range
 pub record Walkable (slots marks : List ℕ) (size n hand : ℕ) : Type 0 where
-  pub readable : Readable slots marks size
+  pub readable : SlotsReadable slots marks size
   pub some : 1 ≤ n
   pub inside : hand < size
 
 -- ── an index ─────────────────────────────────────────────────────────────────
 -- the order has a place for each slot, and n of them are to be used
 pub record Orderable (order slots marks : List ℕ) (n : ℕ) : Type 0 where
-  pub readable : Readable slots marks (length order)
+  pub readable : SlotsReadable slots marks (length order)
   pub fits : n ≤ length order
 
 -- the first n places hold slots that are not free, by strictly ascending names
@@ -115,24 +115,24 @@ pub record Ordered (col order marks : List ℕ) (n : ℕ) : Type 0 where
 abbrev pub Clear : List ℕ → ℕ → Type 0
 Clear order n = (i : ℕ) → n ≤ i → i < length order → getD order i 0 ≡ 0
 
-pub record Lists (col order marks : List ℕ) (n : ℕ) : Type 0 where
+pub record IndexGood (col order marks : List ℕ) (n : ℕ) : Type 0 where
   pub ordered : Ordered col order marks n
   pub clear : Clear order n
 
 -- ── slots ────────────────────────────────────────────────────────────────────
 -- what the entry of a held slot has to be
-pub record Filled (e : PageCacheEntry) : Type 0 where
+pub record HeldEntryGood (e : PageCacheEntry) : Type 0 where
   pub uses : e .uses ≤ refMax
   pub flags : e .page .flags ≤ allFlags
   pub spare : e .spare ≡ 0
 
 -- a held slot has a good entry, and a free one is all zero
-pub record Proper (mark : ℕ) (e : PageCacheEntry) : Type 0 where
-  pub held : mark ≡ 0 → Filled e
+pub record SlotGood (mark : ℕ) (e : PageCacheEntry) : Type 0 where
+  pub held : mark ≡ 0 → HeldEntryGood e
   pub free : mark ≡ 1 → e ≡ blank
 
-abbrev pub AllProper : List PageCacheEntry → List ℕ → ℕ → Type 0
-AllProper es marks size = (s : ℕ) → s < size → Proper (bitAt marks s) (getD es s blank)
+abbrev pub AllSlotsGood : List PageCacheEntry → List ℕ → ℕ → Type 0
+AllSlotsGood es marks size = (s : ℕ) → s < size → SlotGood (bitAt marks s) (getD es s blank)
 
 -- ── all of the test ──────────────────────────────────────────────────────────
 pub record Checked (m : Memory) (head : PageCache) : Type 0 where
@@ -140,6 +140,6 @@ pub record Checked (m : Memory) (head : PageCache) : Type 0 where
   pub range : InRange head (length (m .by-key))
   pub marks : Counted (m .marks) (length (m .by-key)) (head .held)
   pub ring : Walked (entries (m .slots)) (m .marks) (head .held) (head .hand .0)
-  pub keys : Lists (names Key (entries (m .slots))) (m .by-key) (m .marks) (head .held)
-  pub handles : Lists (names Handle (entries (m .slots))) (m .by-handle) (m .marks) (head .held)
-  pub slots : AllProper (entries (m .slots)) (m .marks) (length (m .by-key))
+  pub keys : IndexGood (names Key (entries (m .slots))) (m .by-key) (m .marks) (head .held)
+  pub handles : IndexGood (names Handle (entries (m .slots))) (m .by-handle) (m .marks) (head .held)
+  pub slots : AllSlotsGood (entries (m .slots)) (m .marks) (length (m .by-key))

@@ -1,12 +1,12 @@
 // The pass over the marks.
 ghost use mathlib.Core.Path.{_≡_};
-ghost use Rattle.pool.specs.Tells.{Tells};
+ghost use Rattle.pool.specs.Decides.{Decides};
 ghost use Rattle.soundness.specs.Checks.{MarksFit, Beyond, Countable, Counted, countBelow, unmarked};
 
 // Whether no mark stands beyond the last slot. Only the last word has bits to spare.
 fn clear_beyond(marks: &[u64], size: u32) -> bool
     requires { ⌜ MarksFit (now marks) size ⌝ }
-    ensures { λ r. ⌜ Tells r (Beyond (now (marks .entry)) size) ⌝ }
+    ensures { λ r. ⌜ Decides r (Beyond (now (marks .entry)) size) ⌝ }
 {
     let last = size as usize / 64;
     if last >= marks.len() {
@@ -32,7 +32,7 @@ fn count_held(marks: &[u64], size: u32) -> u32
 // Whether exactly `held` slots are unmarked, and no mark stands beyond the last slot.
 pub fn marks_agree(marks: &[u64], size: u32, held: u32) -> bool
     requires { ⌜ MarksFit (now marks) size ⌝ }
-    ensures { λ r. ⌜ Tells r (Counted (now (marks .entry)) size held) ⌝ }
+    ensures { λ r. ⌜ Decides r (Counted (now (marks .entry)) size held) ⌝ }
 {
     if !clear_beyond(marks, size) {
         return false;

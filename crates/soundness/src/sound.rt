@@ -4,10 +4,10 @@ use crate::lengths::in_range;
 use crate::lengths::lengths_agree;
 use crate::marks::marks_agree;
 use crate::ring::is_ring;
-use crate::slots::all_proper;
-use order::By;
+use crate::slots::all_slots_good;
 use page::PageCache;
-ghost use Rattle.pool.specs.Tells.{Tells};
+use sorted_index::By;
+ghost use Rattle.pool.specs.Decides.{Decides};
 ghost use Rattle.memory.specs.Memory.{memories};
 ghost use Rattle.memory.specs.Holds.{Sound};
 
@@ -19,7 +19,7 @@ pub fn is_sound(
     marks: &[u64],
     head: PageCache,
 ) -> bool
-    ensures { λ r. let m = memories slots «by_key» «by_handle» marks in ⌜ Tells r (Sound (m .entry) head) ⌝ }
+    ensures { λ r. let m = memories slots «by_key» «by_handle» marks in ⌜ Decides r (Sound (m .entry) head) ⌝ }
 {
     if !lengths_agree(slots, by_key, by_handle, marks) {
         return false;
@@ -41,5 +41,5 @@ pub fn is_sound(
     if !lists(by_handle, slots, marks, By::Handle, n) {
         return false;
     }
-    all_proper(slots, marks, size)
+    all_slots_good(slots, marks, size)
 }

@@ -18,7 +18,7 @@ use Rattle.memory.specs.Holds.{Holds}
 use Rattle.memory.specs.Walk.{walk}
 use Rattle.memory.proofs.Walks.{walkAt, walkFrom, walked-none, walked-one, walked-past, walked-split}
 use Rattle.answer.specs.Answer.{Wrote}
-use Rattle.spilling.specs.Parts.{Readable, Selected}
+use Rattle.spilling.specs.Parts.{PartsOfSound, Selected}
 use Rattle.spilling.proofs.Walking.{readable-place, Met, met-none, pageOf, loaded-page, met-one, met-past, whole-walk}
 
 abbrev handlesOf : List Page → List ℕ
@@ -72,7 +72,7 @@ module _ {slots by-key before after : List ℕ} {held most i listed : ℕ} (s : 
   pub selecting-length : held ≤ length before → length after ≡ length before
   selecting-length long = wrote-length (s .wrote) (omega (arith, selecting-count, s .met .upto, s .met .within))
 
-module _ {slots by-key before after : List ℕ} {held most i listed : ℕ} {e : PageCacheEntry} (r : Readable slots by-key held)
+module _ {slots by-key before after : List ℕ} {held most i listed : ℕ} {e : PageCacheEntry} (r : PartsOfSound slots by-key held)
     (s : Selecting slots by-key before held most i listed after) (more : i < held)
     (loaded : e ≡ getD (entries slots) (getD by-key i 0) blank) where
   -- the page that was loaded is the walk's next

@@ -15,11 +15,11 @@ use Rattle.memory.specs.Memory.{Memory}
 use Rattle.memory.specs.Holds.{seen, Holds}
 use Rattle.memory.specs.Walk.{walk}
 use Rattle.memory.proofs.Walks.{walkAt, walk-by-key, walk-fits, walk-inside, walked-none, walked-one, walked-past}
-use Rattle.spilling.specs.Parts.{Readable, Place}
+use Rattle.spilling.specs.Parts.{PartsOfSound, Place}
 use Rattle.spilling.proofs.Counts.{by-key-count}
 
 -- ── what is read ─────────────────────────────────────────────────────────────
-module _ {slots by-key : List ℕ} {held : ℕ} (r : Readable slots by-key held) where
+module _ {slots by-key : List ℕ} {held : ℕ} (r : PartsOfSound slots by-key held) where
   -- the index has a place for each held page
   readable-fits : held ≤ length by-key
   readable-fits = omega (arith, walk-fits (r .sound .holds), r .same)
@@ -54,7 +54,7 @@ pub loaded-page : (slots by-key : List ℕ) (i : ℕ) {e : PageCacheEntry} → e
     → pageOf (getD by-key i 0) e ≡ walkAt slots by-key i .page
 loaded-page slots by-key i loaded = ap (pageOf (getD by-key i 0)) loaded
 
-module _ {test : Page → Bool} {slots by-key : List ℕ} {held i count : ℕ} {e : PageCacheEntry} (r : Readable slots by-key held)
+module _ {test : Page → Bool} {slots by-key : List ℕ} {held i count : ℕ} {e : PageCacheEntry} (r : PartsOfSound slots by-key held)
     (m : Met test slots by-key held i count) (more : i < held) (loaded : e ≡ getD (entries slots) (getD by-key i 0) blank) where
   -- the test of the page that was loaded is that of the walk's next
   judged : test (pageOf (getD by-key i 0) e) ≡ test (walkAt slots by-key i .page)

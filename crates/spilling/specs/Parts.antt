@@ -11,7 +11,7 @@ use Rattle.memory.specs.Holds.{Sound}
 use Rattle.answer.specs.Answer.{Wrote}
 
 -- they are parts of a sound memory that holds `held` pages
-pub record Readable (slots by-key : List ℕ) (held : ℕ) : Type 0 where
+pub record PartsOfSound (slots by-key : List ℕ) (held : ℕ) : Type 0 where
   pub by-handle : List ℕ
   pub marks : List ℕ
   pub head : PageCache
@@ -19,8 +19,8 @@ pub record Readable (slots by-key : List ℕ) (held : ℕ) : Type 0 where
   pub same : head .held ≡ held
 
 -- and the list is as long as held
-pub record Listable (slots by-key : List ℕ) (held : ℕ) (list : List ℕ) : Type 0 where
-  pub readable : Readable slots by-key held
+pub record CanListSelected (slots by-key : List ℕ) (held : ℕ) (list : List ℕ) : Type 0 where
+  pub readable : PartsOfSound slots by-key held
   pub long : held ≤ length list
 
 -- the index has a place i, and a slot there

@@ -6,7 +6,7 @@
 //                    the threshold and the estimate say no first where they can
 //     selection.rt   check_spill, collect_spillable_pages: rule 14, and the call. One walk, which stops when enough are selected
 //
-// Callers lend two parts of a sound memory (`Readable`, specs/Parts.antt). They may rely on the answers being the model's for
+// Callers lend two parts of a sound memory (`PartsOfSound`, specs/Parts.antt). They may rely on the answers being the model's for
 // every cache that the memory holds; `check_spill` makes the test of its list too, and comes to the model's step.
 mod need;
 mod selection;

@@ -10,11 +10,11 @@ ghost use Rattle.model.specs.Row.{those};
 ghost use Rattle.model.specs.Spill.{needsSpill};
 ghost use Rattle.memory.specs.Memory.{memoryOf};
 ghost use Rattle.memory.specs.Holds.{Holds};
-ghost use Rattle.spilling.specs.Parts.{Readable};
+ghost use Rattle.spilling.specs.Parts.{PartsOfSound};
 
 // Whether dirty pages should be written out, since too many pages are held and too few of them may go.
 pub fn needs_spill(slots: &[u64], by_key: &[u32], head: PageCache) -> bool
-    requires { ⌜ Readable (now slots) (now «by_key») (head .held) ⌝ }
+    requires { ⌜ PartsOfSound (now slots) (now «by_key») (head .held) ⌝ }
     ensures { λ r. ⌜ ((by-handle marks : List ℕ) (c : Cache) → Holds (memoryOf (now (slots .entry)) (now («by_key» .entry)) by-handle marks) head c → r ≡ needsSpill c) ⌝ }
 {
     let threshold = head.spill_threshold();
@@ -42,7 +42,7 @@ fn empty_slots(head: PageCache) -> u32
 
 // How many pages may go, counted one by one.
 pub fn count_evictable_pages(slots: &[u64], by_key: &[u32], held: u32) -> u32
-    requires { ⌜ Readable (now slots) (now «by_key») held ⌝ }
+    requires { ⌜ PartsOfSound (now slots) (now «by_key») held ⌝ }
     ensures { λ r. ⌜ ((by-handle marks : List ℕ) (head : PageCache) (c : Cache) → Holds (memoryOf (now (slots .entry)) (now («by_key» .entry)) by-handle marks) head c → head .held ≡ held → r ≡ length (those pageMayGo (c .row))) ⌝ }
 {
     let n = held as usize;

@@ -14,8 +14,8 @@ ghost use Rattle.model.specs.Spill.{selection, onSpill};
 ghost use Rattle.model.specs.Step.{step};
 ghost use Rattle.memory.specs.Memory.{memoryOf};
 ghost use Rattle.memory.specs.Holds.{Holds};
-ghost use Rattle.answer.specs.Answer.{Comes};
-ghost use Rattle.spilling.specs.Parts.{Readable, Listable, Selected};
+ghost use Rattle.answer.specs.Answer.{MatchesOutcome};
+ghost use Rattle.spilling.specs.Parts.{PartsOfSound, CanListSelected, Selected};
 
 // Lists the handles of the first `most` pages by key that a spill may select, and says how many there are.
 fn collect_spillable_pages(
@@ -25,7 +25,7 @@ fn collect_spillable_pages(
     held: u32,
     most: u64,
 ) -> u32
-    requires { ⌜ Listable (now slots) (now «by_key») held (now list) ⌝ }
+    requires { ⌜ CanListSelected (now slots) (now «by_key») held (now list) ⌝ }
     ensures { λ r. ⌜ ((by-handle marks : List ℕ) (head : PageCache) (c : Cache) → Holds (memoryOf (now (slots .entry)) (now («by_key» .entry)) by-handle marks) head c → head .held ≡ held → Selected (selection most c) (now (list .entry)) (now (list .exit)) r) ⌝ }
 {
     let n = held as usize;
@@ -53,8 +53,8 @@ pub fn check_spill(
     head: PageCache,
     most: u64,
 ) -> Answered
-    requires { ⌜ Readable (now slots) (now «by_key») (head .held) ⌝ }
-    ensures { λ r. ⌜ ((by-handle marks : List ℕ) (c : Cache) → Holds (memoryOf (now (slots .entry)) (now («by_key» .entry)) by-handle marks) head c → Comes (step (spill most (length (now (list .entry)))) c) (now (list .entry)) (memoryOf (now (slots .entry)) (now («by_key» .entry)) by-handle marks) (now (list .exit)) r) ⌝ }
+    requires { ⌜ PartsOfSound (now slots) (now «by_key») (head .held) ⌝ }
+    ensures { λ r. ⌜ ((by-handle marks : List ℕ) (c : Cache) → Holds (memoryOf (now (slots .entry)) (now («by_key» .entry)) by-handle marks) head c → MatchesOutcome (step (spill most (length (now (list .entry)))) c) (now (list .entry)) (memoryOf (now (slots .entry)) (now («by_key» .entry)) by-handle marks) (now (list .exit)) r) ⌝ }
 {
     if list.len() < head.held as usize {
         return Answered::plain(Answer::ShortList, head);
@@ -70,8 +70,8 @@ fn check_spill_listed(
     head: PageCache,
     most: u64,
 ) -> Answered
-    requires { ⌜ Listable (now slots) (now «by_key») (head .held) (now list) ⌝ }
-    ensures { λ r. ⌜ ((by-handle marks : List ℕ) (c : Cache) → Holds (memoryOf (now (slots .entry)) (now («by_key» .entry)) by-handle marks) head c → Comes (onSpill most c) (now (list .entry)) (memoryOf (now (slots .entry)) (now («by_key» .entry)) by-handle marks) (now (list .exit)) r) ⌝ }
+    requires { ⌜ CanListSelected (now slots) (now «by_key») (head .held) (now list) ⌝ }
+    ensures { λ r. ⌜ ((by-handle marks : List ℕ) (c : Cache) → Holds (memoryOf (now (slots .entry)) (now («by_key» .entry)) by-handle marks) head c → MatchesOutcome (onSpill most c) (now (list .entry)) (memoryOf (now (slots .entry)) (now («by_key» .entry)) by-handle marks) (now (list .exit)) r) ⌝ }
 {
     if !needs_spill(slots, by_key, head) {
         return Answered::plain(Answer::NotNeeded, head);

@@ -12,13 +12,13 @@ use Rattle.page.specs.declared.cache.PageCache.{PageCache}
 use Rattle.page.specs.declared.entry.PageCacheEntry.{PageCacheEntry}
 use Rattle.pool.specs.Slots.{decode, blank, entries}
 use Rattle.pool.proofs.Packing.{entries-at}
-use Rattle.order.specs.Index.{Index, Found, Hit, Miss, nameAt}
-use Rattle.order.specs.Names.{names}
-use Rattle.order.specs.declared.search.By.the-variants.{Key}
-use Rattle.order.specs.declared.search.Spot.{Spot}
-use Rattle.order.specs.declared.search.Spot.the-variants.{Here, Gap}
-use Rattle.order.proofs.Ascending.{ascending, upto}
-use Rattle.order.proofs.Names.{name-at, index-slot}
+use Rattle.sorted_index.specs.Index.{Index, FoundSpot, Hit, Miss, nameAt}
+use Rattle.sorted_index.specs.Names.{names}
+use Rattle.sorted_index.specs.declared.search.By.the-variants.{Key}
+use Rattle.sorted_index.specs.declared.search.Spot.{Spot}
+use Rattle.sorted_index.specs.declared.search.Spot.the-variants.{Here, Gap}
+use Rattle.sorted_index.proofs.Ascending.{ascending, upto}
+use Rattle.sorted_index.proofs.Names.{name-at, index-slot}
 use Rattle.model.specs.Cache.{Cache}
 use Rattle.model.specs.Row.{Page, byKey, those}
 use Rattle.memory.specs.Memory.{Memory}
@@ -81,8 +81,8 @@ module _ (slots by-key : List ℕ) (n limit : ℕ) where
 
 -- once the search has answered
 module _ (col order : List ℕ) (n x : ℕ) (r : Spot) where
-  pub says-hit : {at : ℕ} → r ≡ Here at → Found col order n x r → Hit col order n x at
-  says-hit = subst (Found col order n x)
+  pub says-hit : {at : ℕ} → r ≡ Here at → FoundSpot col order n x r → Hit col order n x at
+  says-hit = subst (FoundSpot col order n x)
 
-  pub says-miss : {at : ℕ} → r ≡ Gap at → Found col order n x r → Miss col order n x at
-  says-miss = subst (Found col order n x)
+  pub says-miss : {at : ℕ} → r ≡ Gap at → FoundSpot col order n x r → Miss col order n x at
+  says-miss = subst (FoundSpot col order n x)

@@ -7,7 +7,7 @@ use native.Mathlib.Omega.{arith}
 use lib.ListN.{length, getD, take, drop, length-map}
 use lib.Seq.{length-take-le, drop-at}
 use Rattle.page.specs.declared.cache.PageCache.{PageCache}
-use Rattle.order.proofs.Listed.{place-seat}
+use Rattle.sorted_index.proofs.Listed.{place-seat}
 use Rattle.model.specs.Cache.{Cache, leave}
 use Rattle.model.specs.Row.{Entry, Row, byKey}
 use Rattle.memory.specs.Memory.{Memory}

@@ -19,7 +19,7 @@ use Rattle.memory.specs.Holds.{Holds}
 use Rattle.memory.proofs.Lengths.{SameLengths, same-start, same-then}
 use Rattle.memory.proofs.OnceKept.{holds-held, holds-fits}
 use Rattle.memory.proofs.Walks.{walk-fits, walk-inside}
-use Rattle.answer.specs.Answer.{codeOf, valueOf, Wrote, Comes, Ready}
+use Rattle.answer.specs.Answer.{codeOf, valueOf, Wrote, MatchesOutcome, ReadyToCall}
 use Rattle.answer.specs.declared.answer.Answer.{Answer}
 use Rattle.answer.specs.declared.answer.Answer.the-variants.{Done}
 use Rattle.answer.proofs.Steps.{wrote-none, wrote-next, plain-follows, listing-follows, deleting-refused, comes-as}
@@ -40,7 +40,7 @@ wholly which c = deleteEach (those (chooses which) (byKey (c .row))) c
 -- from memory m with the head and the list at first, to m′ with head′ and list′ now, where the walk is at place i and the
 -- list has `count` handles
 pub record Progress (which : Which) (m : Memory) (head : PageCache) (list : List ℕ) (m′ : Memory) (head′ : PageCache) (list′ : List ℕ) (count i : ℕ) : Type 0 where
-  pub ready : Ready m head list
+  pub ready : ReadyToCall m head list
   pub same : SameLengths m m′
   pub gone : List ℕ
   pub wrote : Wrote gone list list′
@@ -88,7 +88,7 @@ module _ {which : Which} {m : Memory} {head : PageCache} {list : List ℕ} {m′
   -- the call ends here with the answer a
   ends : {whole : Outcome} {c′ : Cache} {m″ : Memory} {list″ : List ℕ} (a : Answer) → list″ ≡ list′ → Holds m″ head′ c′
       → whole ≡ listing (g .gone) (answer (codeOf a) (valueOf a) c′)
-      → Comes whole list m″ list″ (record { answer = a; passed = 0; listed = count; head = head′ })
+      → MatchesOutcome whole list m″ list″ (record { answer = a; passed = 0; listed = count; head = head′ })
   ends {c′ = c′} {m″} {list″} a same H whole = comes-as whole (record {
     follows = listing-follows (g .gone) (plain-follows a H) (omega (arith, g .counted));
     wrote = rw append-nil (record { list = same ∙ g .wrote .list });
@@ -96,7 +96,7 @@ module _ {which : Which} {m : Memory} {head : PageCache} {list : List ℕ} {m′
 
   -- no page is left
   pub progress-done : head′ .held ≤ i → (c : Cache) → Holds m head c
-      → Comes (wholly which c) list m′ list′ (record { answer = Done 0; passed = 0; listed = count; head = head′ })
+      → MatchesOutcome (wholly which c) list m′ list′ (record { answer = Done 0; passed = 0; listed = count; head = head′ })
   progress-done end c H = let t = g .toward c H in ends (Done 0) refl (t .holds) (toward-end t (omega (arith, g .within)))
 
   module _ (more : i < head′ .held) where
@@ -156,7 +156,7 @@ module _ {which : Which} {m : Memory} {head : PageCache} {list : List ℕ} {m′
       -- and is refused
       pub progress-refused : {a : Answer} → ((c : Cache) (key : ℕ) (e : Entry) → Holds m′ head′ c → StandsAt (c .row) key (getD (m′ .by-key) i 0) e
           → Stays (e .page) m′ list′ m″ list″ a) → chooses which (pageAt (m′ .slots) (m′ .by-key) i) ≡ true → (c : Cache) → Holds m head c
-          → Comes (wholly which c) list m″ list″ (record { answer = a; passed = 0; listed = count; head = head′ })
+          → MatchesOutcome (wholly which c) list m″ list″ (record { answer = a; passed = 0; listed = count; head = head′ })
       progress-refused {a} stays chosen c H =
           let p : Page = pageAt (m′ .slots) (m′ .by-key) i in
           let t = g .toward c H in

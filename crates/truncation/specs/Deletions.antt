@@ -11,7 +11,7 @@ use Rattle.model.specs.Row.{Page}
 use Rattle.model.specs.Rules.{newerThan}
 use Rattle.memory.specs.Memory.{Memory}
 use Rattle.memory.specs.Holds.{seen}
-use Rattle.answer.specs.Answer.{Ready}
+use Rattle.answer.specs.Answer.{ReadyToCall}
 use Rattle.truncation.specs.declared.deletions.Which.{Which}
 use Rattle.truncation.specs.declared.deletions.Which.the-variants.{KeysAbove, FramesAbove}
 
@@ -35,6 +35,6 @@ pub record FirstAbove (slots by-key : List ℕ) (n limit from : ℕ) : Type 0 wh
 
 -- the memory is sound and the list is as long as held; no page before place `from` is chosen
 pub record Walkable (m : Memory) (head : PageCache) (list : List ℕ) (which : Which) (from : ℕ) : Type 0 where
-  pub ready : Ready m head list
+  pub ready : ReadyToCall m head list
   pub within : from ≤ head .held
   pub none : NoneBefore (m .slots) (m .by-key) which from

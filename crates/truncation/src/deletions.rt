@@ -3,18 +3,18 @@
 use answer::Answer;
 use answer::Answered;
 use deletion::Deletion;
-use order::By;
-use order::Spot;
 use page::PageCache;
 use page::PageCacheEntry;
 use page::Slot;
+use sorted_index::By;
+use sorted_index::Spot;
 ghost use mathlib.Core.Path.{_≡_};
 ghost use Prim.Native.Nat.{ℕ, _<_};
 ghost use lib.ListN.{length, getD};
 ghost use Rattle.pool.specs.Slots.{entries, blank};
-ghost use Rattle.order.specs.Index.{Index};
-ghost use Rattle.order.specs.Names.{names};
-ghost use Rattle.order.specs.declared.search.By.the-variants.{Key};
+ghost use Rattle.sorted_index.specs.Index.{Index};
+ghost use Rattle.sorted_index.specs.Names.{names};
+ghost use Rattle.sorted_index.specs.declared.search.By.the-variants.{Key};
 ghost use Rattle.model.specs.Cache.{Cache};
 ghost use Rattle.model.specs.Call as call;
 ghost use Rattle.model.specs.Rules.{deleteEach};
@@ -22,7 +22,7 @@ ghost use Rattle.model.specs.Row.{byKey, those};
 ghost use Rattle.model.specs.Step.{step};
 ghost use Rattle.memory.specs.Memory.{memory, memories};
 ghost use Rattle.memory.specs.Holds.{Holds, Sound, seen};
-ghost use Rattle.answer.specs.Answer.{Comes};
+ghost use Rattle.answer.specs.Answer.{MatchesOutcome};
 ghost use Rattle.truncation.specs.Deletions.{chooses, FirstAbove, Walkable};
 
 // Which pages go.
@@ -44,7 +44,7 @@ pub fn truncate(
     limit: u64,
 ) -> Answered
     requires { ⌜ Sound (memory slots «by_key» «by_handle» marks) head ⌝ }
-    ensures { λ r. let m = memories slots «by_key» «by_handle» marks in ⌜ ((c : Cache) → Holds (m .entry) head c → Comes (step (call.truncate limit (length (now (list .entry)))) c) (now (list .entry)) (m .exit) (now (list .exit)) r) ⌝ }
+    ensures { λ r. let m = memories slots «by_key» «by_handle» marks in ⌜ ((c : Cache) → Holds (m .entry) head c → MatchesOutcome (step (call.truncate limit (length (now (list .entry)))) c) (now (list .entry)) (m .exit) (now (list .exit)) r) ⌝ }
 {
     if list.len() < head.held as usize {
         return Answered::plain(Answer::ShortList, head);
@@ -73,7 +73,7 @@ pub fn delete_clean_pages_after_wal_frame(
     limit: u64,
 ) -> Answered
     requires { ⌜ Sound (memory slots «by_key» «by_handle» marks) head ⌝ }
-    ensures { λ r. let m = memories slots «by_key» «by_handle» marks in ⌜ ((c : Cache) → Holds (m .entry) head c → Comes (step (call.remove-frames limit (length (now (list .entry)))) c) (now (list .entry)) (m .exit) (now (list .exit)) r) ⌝ }
+    ensures { λ r. let m = memories slots «by_key» «by_handle» marks in ⌜ ((c : Cache) → Holds (m .entry) head c → MatchesOutcome (step (call.remove-frames limit (length (now (list .entry)))) c) (now (list .entry)) (m .exit) (now (list .exit)) r) ⌝ }
 {
     if list.len() < head.held as usize {
         return Answered::plain(Answer::ShortList, head);
@@ -98,7 +98,7 @@ fn first_above(by_key: &[u32], slots: &[u64], held: u32, limit: u64) -> usize
     if limit > u32::MAX as u64 {
         return held as usize;
     }
-    match order::find(by_key, slots, By::Key, held as usize, limit as u32) {
+    match sorted_index::find(by_key, slots, By::Key, held as usize, limit as u32) {
         Spot::Here(at) => at + 1,
         Spot::Gap(at) => at,
     }
@@ -138,7 +138,7 @@ fn delete_chosen(
     from: usize,
 ) -> Answered
     requires { ⌜ Walkable (memory slots «by_key» «by_handle» marks) head (now list) which from ⌝ }
-    ensures { λ r. let m = memories slots «by_key» «by_handle» marks in ⌜ ((c : Cache) → Holds (m .entry) head c → Comes (deleteEach (those (chooses which) (byKey (c .row))) c) (now (list .entry)) (m .exit) (now (list .exit)) r) ⌝ }
+    ensures { λ r. let m = memories slots «by_key» «by_handle» marks in ⌜ ((c : Cache) → Holds (m .entry) head c → MatchesOutcome (deleteEach (those (chooses which) (byKey (c .row))) c) (now (list .entry)) (m .exit) (now (list .exit)) r) ⌝ }
 {
     let mut left = head;
     let mut count: usize = 0;

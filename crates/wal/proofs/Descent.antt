@@ -10,13 +10,13 @@ use lib.ListN.{length}
 use borrow.Author.Tests.{eq-eqb, ne-eqb}
 use Rattle.wal_checksum.specs.Checksum.{bigEndian}
 use Rattle.wal_frame.specs.Frame.{frameLength, frameAt}
-use Rattle.wal_scanner.specs.declared.scanning.Summary.{Summary}
-use Rattle.wal.specs.declared.find.Found.{Found}
-use Rattle.wal.specs.declared.find.Found.the-variants.{OtherLog, Nothing, At}
+use Rattle.wal_frames.specs.declared.scanning.Summary.{Summary}
+use Rattle.wal.specs.declared.find.FoundFrame.{FoundFrame}
+use Rattle.wal.specs.declared.find.FoundFrame.the-variants.{OtherLog, Nothing, At}
 use Rattle.wal.specs.Reading.{reaches, placed, committed, newer, newest, found}
 
 -- the topmost frame decides before the others
-newer-cond : (t : Bool) (k at : ℕ) (below this : Found)
+newer-cond : (t : Bool) (k at : ℕ) (below this : FoundFrame)
     → newer (cond t (At k at) below) this ≡ cond t (At k at) (newer below this)
 newer-cond true k at below this = refl
 newer-cond false k at below this = refl
@@ -38,7 +38,7 @@ module _ (page n : ℕ) (b : List ℕ) where
       let this = cond (eqb (bigEndian b at) page) (At (suc number) at) Nothing in
       let holds = eqb (bigEndian b (at + n + k * n)) page in
       let below = newest page n (suc number) (at + n) (placed n b k (at + n)) in
-      ap (λ (x : Found). newer x this) (newest-top k (suc number) (at + n))
+      ap (λ (x : FoundFrame). newer x this) (newest-top k (suc number) (at + n))
       ∙ newer-cond holds (suc (suc number + k)) (at + n + k * n) below this
       ∙ rw (here, top)
 

@@ -14,9 +14,9 @@ use borrow.Author.Tests.{ltb-false}
 use Rattle.wal_checksum.specs.Checksum.{bigEndian}
 use Rattle.wal_frame.specs.declared.frame.Frame.{Frame}
 use Rattle.wal_frame.specs.Frame.{frameLength, frameAt}
-use Rattle.wal_scanner.specs.declared.scanning.Summary.{Summary}
+use Rattle.wal_frames.specs.declared.scanning.Summary.{Summary}
 use Rattle.wal.specs.declared.list.Listed.the-variants.{OtherLog, Short, Done}
-use Rattle.wal.specs.Reading.{reaches, placed, listed, filled, Lists, Listable, Filled}
+use Rattle.wal.specs.Reading.{reaches, placed, listed, filled, ListsFrames, CanListFrames, FramesWritten}
 use Rattle.wal.proofs.Reach.{reach-within}
 
 length-placed : (n : ℕ) (b : List ℕ) (count at : ℕ) → length (placed n b count at) ≡ count
@@ -54,7 +54,7 @@ pub record Filling (n : ℕ) (b : List ℕ) (count : ℕ) (pages₀ sizes₀ pag
   pub numbers : Column (λ f. f .page) n b count pages₀ left at i pages
   pub commits : Column (λ f. f .commit) n b count sizes₀ left at i sizes
 
-pub filling-start : {n l : ℕ} {b : List ℕ} {count : ℕ} {pages sizes : List ℕ} → Listable n b count pages sizes → l ≡ n
+pub filling-start : {n l : ℕ} {b : List ℕ} {count : ℕ} {pages sizes : List ℕ} → CanListFrames n b count pages sizes → l ≡ n
     → Filling l b count pages sizes pages sizes 32 0
 filling-start {count = count} g is = rw is record {
   left = count;
@@ -91,13 +91,13 @@ module _ {n : ℕ} {b : List ℕ} {count : ℕ} {pages₀ sizes₀ pages sizes :
         commits = rw commit (column-more q);
       }
 
-  pub filling-done : {m : ℕ} → count ≤ i → n ≡ m → Listable m b count pages₀ sizes₀
-      → Filled m b count pages₀ sizes₀ pages sizes
+  pub filling-done : {m : ℕ} → count ≤ i → n ≡ m → CanListFrames m b count pages₀ sizes₀
+      → FramesWritten m b count pages₀ sizes₀ pages sizes
   filling-done all is room = rw (sym is) (last (g .left) (g .counted) (g .numbers) (g .commits))
     where
       last : (k : ℕ) → i + k ≡ count
           → Column (λ f. f .page) n b count pages₀ k at i pages → Column (λ f. f .commit) n b count sizes₀ k at i sizes
-          → Filled n b count pages₀ sizes₀ pages sizes
+          → FramesWritten n b count pages₀ sizes₀ pages sizes
       last zero e p q = record { numbers = column-done p (room .pages-room); commits = column-done q (room .sizes-room) }
       last (suc k) e p q = absurd (omega arith)
 
@@ -111,7 +111,7 @@ abbrev short : (count : ℕ) (pages sizes : List ℕ) → Bool
 short count pages sizes = ltb (length pages) count || ltb (length sizes) count
 
 pub listable : (n : ℕ) (b : List ℕ) (count : ℕ) (pages sizes : List ℕ) {told : Bool}
-    → told ≡ reaches n count b → told ≡ true → short count pages sizes ≡ false → Listable n b count pages sizes
+    → told ≡ reaches n count b → told ≡ true → short count pages sizes ≡ false → CanListFrames n b count pages sizes
 listable n b count pages sizes tells good long =
     let both = neither (ltb (length pages) count) (ltb (length sizes) count) long in
     record {
@@ -122,17 +122,17 @@ listable n b count pages sizes tells good long =
 
 module _ (s : Summary) (b pages sizes : List ℕ) {told : Bool}
     (tells : told ≡ reaches (frameLength (s .header)) (s .frames) b) where
-  pub lists-other : told ≡ false → Lists s b pages sizes OtherLog pages sizes
+  pub lists-other : told ≡ false → ListsFrames s b pages sizes OtherLog pages sizes
   unfolding listed
   lists-other bad = record { told = rw (← tells, bad); numbers = refl; commits = refl }
 
   module _ (good : told ≡ true) where
-    pub lists-short : short (s .frames) pages sizes ≡ true → Lists s b pages sizes Short pages sizes
+    pub lists-short : short (s .frames) pages sizes ≡ true → ListsFrames s b pages sizes Short pages sizes
     unfolding listed
     lists-short less = record { told = rw (← tells, good, less); numbers = refl; commits = refl }
 
     pub lists-done : {pages′ sizes′ : List ℕ} → short (s .frames) pages sizes ≡ false
-        → Filled (frameLength (s .header)) b (s .frames) pages sizes pages′ sizes′
-        → Lists s b pages sizes (Done (s .frames)) pages′ sizes′
+        → FramesWritten (frameLength (s .header)) b (s .frames) pages sizes pages′ sizes′
+        → ListsFrames s b pages sizes (Done (s .frames)) pages′ sizes′
     unfolding listed
     lists-done long g = record { told = rw (← tells, good, long); numbers = g .numbers; commits = g .commits }

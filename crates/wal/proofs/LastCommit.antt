@@ -11,10 +11,10 @@ use lib.Seq.{append-snoc}
 use borrow.Author.Tests.{eqb-true, eqb-false}
 use Rattle.wal_header.specs.declared.header.Header.{Header}
 use Rattle.wal_frame.specs.declared.frame.Frame.{Frame}
-use Rattle.wal_scanner.specs.declared.scanning.Commit.{Commit}
-use Rattle.wal_scanner.specs.declared.scanning.Commit.the-variants.{Nothing, At}
-use Rattle.wal_scanner.specs.declared.scanning.Summary.{Summary}
-use Rattle.wal_scanner.specs.Scan.{framesIn, startOf, counted, tally, scanOf}
+use Rattle.wal_frames.specs.declared.scanning.Commit.{Commit}
+use Rattle.wal_frames.specs.declared.scanning.Commit.the-variants.{Nothing, At}
+use Rattle.wal_frames.specs.declared.scanning.Summary.{Summary}
+use Rattle.wal_frames.specs.Scan.{framesIn, startOf, counted, tally, scanOf}
 use Rattle.wal.specs.Committed.{NoCommit, LastCommit, LastIs}
 
 -- ── one frame more ───────────────────────────────────────────────────────────

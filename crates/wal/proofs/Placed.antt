@@ -19,13 +19,13 @@ use Rattle.wal_header.proofs.Opening.{opened-long}
 use Rattle.wal_frame.specs.declared.frame.Frame.{Frame}
 use Rattle.wal_frame.specs.Frame.{frameLength, frameAt, valid}
 use Rattle.wal_frame.proofs.Framing.{valid-whole}
-use Rattle.wal_scanner.specs.declared.scanning.Commit.the-variants.{At}
-use Rattle.wal_scanner.specs.declared.scanning.Summary.{Summary}
-use Rattle.wal_scanner.specs.declared.scanning.Scanned.the-variants.{Read}
-use Rattle.wal_scanner.specs.Scan.{frames, framesIn, startOf, counted, tally, scanOf, scannedAs, scanned}
+use Rattle.wal_frames.specs.declared.scanning.Commit.the-variants.{At}
+use Rattle.wal_frames.specs.declared.scanning.Summary.{Summary}
+use Rattle.wal_frames.specs.declared.scanning.Scanned.the-variants.{Read}
+use Rattle.wal_frames.specs.Scan.{frames, framesIn, startOf, counted, tally, scanOf, scannedAs, scanned}
 use Rattle.wal.specs.declared.list.Listed.{Listed}
 use Rattle.wal.specs.declared.list.Listed.the-variants as listing
-use Rattle.wal.specs.Reading.{reaches, placed, committed, newest, found, listed, Lists}
+use Rattle.wal.specs.Reading.{reaches, placed, committed, newest, found, listed, ListsFrames}
 
 -- ── where the valid frames stand ─────────────────────────────────────────────
 module _ (h : Header) (b : List ℕ) where
@@ -152,7 +152,7 @@ module _ (h : Header) (b : List ℕ) (long : 32 ≤ length b) where
 
   -- and with lists that are long enough they are
   pub own-listed : {pages sizes pages′ sizes′ : List ℕ} {answer : Listed}
-      → Lists (scanOf h b) b pages sizes answer pages′ sizes′
+      → ListsFrames (scanOf h b) b pages sizes answer pages′ sizes′
       → length (framesIn h b) ≤ length pages → length (framesIn h b) ≤ length sizes
       → OwnListed h b pages sizes answer pages′ sizes′
   own-listed {pages} {sizes} {answer = answer} g pages-room sizes-room =
@@ -195,12 +195,12 @@ scan-known b e pages sizes other =
     own-known (own .header) b (own .long) pages sizes other′
 
 pub scan-lists : (b : List ℕ) {s : Summary} {pages sizes pages′ sizes′ : List ℕ} {answer : Listed} → scanned b ≡ Read s
-    → Lists s b pages sizes answer pages′ sizes′ → s .frames ≤ length pages → s .frames ≤ length sizes
+    → ListsFrames s b pages sizes answer pages′ sizes′ → s .frames ≤ length pages → s .frames ≤ length sizes
     → OwnListed (s .header) b pages sizes answer pages′ sizes′
 scan-lists b {s} {pages} {sizes} {pages′} {sizes′} {answer} e g pages-room sizes-room =
     let own = scan-own b e in
     let counts = own-summary (own .header) b in
     let count : s .frames ≡ length (framesIn (own .header) b) = ap (λ (t : Summary). t .frames) (own .is) ∙ counts .frames in
-    let g′ = subst (λ (t : Summary). Lists t b pages sizes answer pages′ sizes′) (own .is) g in
+    let g′ = subst (λ (t : Summary). ListsFrames t b pages sizes answer pages′ sizes′) (own .is) g in
     subst (λ (h : Header). OwnListed h b pages sizes answer pages′ sizes′) (own .headed)
     (own-listed (own .header) b (own .long) g′ (omega arith) (omega arith))

@@ -15,13 +15,13 @@ use borrow.Author.Tests.{eqb-true, eqb-false}
 use Rattle.wal_header.specs.declared.header.Header.{Header}
 use Rattle.wal_frame.specs.declared.frame.Frame.{Frame}
 use Rattle.wal_frame.specs.Frame.{frameLength}
-use Rattle.wal_scanner.specs.declared.scanning.Commit.{Commit}
-use Rattle.wal_scanner.specs.declared.scanning.Commit.the-variants as commit
-use Rattle.wal_scanner.specs.declared.scanning.Scanned.the-variants.{Read}
-use Rattle.wal_scanner.specs.declared.scanning.Summary.{Summary}
-use Rattle.wal_scanner.specs.Scan.{framesIn, scanOf, scanned}
-use Rattle.wal.specs.declared.find.Found.{Found}
-use Rattle.wal.specs.declared.find.Found.the-variants.{OtherLog, Nothing, At}
+use Rattle.wal_frames.specs.declared.scanning.Commit.{Commit}
+use Rattle.wal_frames.specs.declared.scanning.Commit.the-variants as commit
+use Rattle.wal_frames.specs.declared.scanning.Scanned.the-variants.{Read}
+use Rattle.wal_frames.specs.declared.scanning.Summary.{Summary}
+use Rattle.wal_frames.specs.Scan.{framesIn, scanOf, scanned}
+use Rattle.wal.specs.declared.find.FoundFrame.{FoundFrame}
+use Rattle.wal.specs.declared.find.FoundFrame.the-variants.{OtherLog, Nothing, At}
 use Rattle.wal.specs.Reading.{committed, newer, newest, found}
 use Rattle.wal.proofs.Placed.{own-found, scan-own}
 use Rattle.wal.specs.Committed.{NoCommit, LastIs, HasCommit, NoCopy, ReadsAs}
@@ -44,7 +44,7 @@ record NewestAt (page n number at : ℕ) (fs : List Frame) (k place : ℕ) : Typ
   holds : frame .page ≡ page
   none : NoPage page after
 
-abbrev NewestIs : (page n number at : ℕ) → List Frame → Found → Type 0
+abbrev NewestIs : (page n number at : ℕ) → List Frame → FoundFrame → Type 0
 NewestIs page n number at fs OtherLog = ⊥
 NewestIs page n number at fs Nothing = NoPage page fs
 NewestIs page n number at fs (At k place) = NewestAt page n number at fs k place
@@ -69,7 +69,7 @@ module _ (page n : ℕ) where
       }
       this false e none = (eqb-false (f .page) page e, none)
 
-      later : (r : Found) → NewestIs page n (suc number) (at + n) fs r
+      later : (r : FoundFrame) → NewestIs page n (suc number) (at + n) fs r
           → NewestIs page n number at (f ∷ fs) (newer r (cond (eqb (f .page) page) (At (suc number) at) Nothing))
       later OtherLog g = g
       later Nothing g = this (eqb (f .page) page) refl g
@@ -123,7 +123,7 @@ module _ (page : ℕ) where
   -- ── the answer ─────────────────────────────────────────────────────────────
   module _ (n : ℕ) where
     newest-reads : (upto after : List Frame) → Ends upto → NoCommit after
-        → (r : Found) → NewestIs page n 0 32 upto r → ReadsAs page n (upto ++ after) r
+        → (r : FoundFrame) → NewestIs page n 0 32 upto r → ReadsAs page n (upto ++ after) r
     newest-reads upto after ends none OtherLog g = g
     newest-reads upto after ends none Nothing g = no-page-copy upto after g none
     newest-reads upto after ends none (At k at) g =

@@ -5,10 +5,10 @@ use mathlib.Core.Logic.{_⊎_}
 use Prim.Native.Nat.{ℕ, _+_, _*_}
 use lib.ListN.{length}
 use Rattle.wal_frame.specs.declared.frame.Frame.{Frame}
-use Rattle.wal_scanner.specs.declared.scanning.Commit.{Commit}
-use Rattle.wal_scanner.specs.declared.scanning.Commit.the-variants as commit
-use Rattle.wal.specs.declared.find.Found.{Found}
-use Rattle.wal.specs.declared.find.Found.the-variants.{OtherLog, Nothing, At}
+use Rattle.wal_frames.specs.declared.scanning.Commit.{Commit}
+use Rattle.wal_frames.specs.declared.scanning.Commit.the-variants as commit
+use Rattle.wal.specs.declared.find.FoundFrame.{FoundFrame}
+use Rattle.wal.specs.declared.find.FoundFrame.the-variants.{OtherLog, Nothing, At}
 
 -- ── the last commit ──────────────────────────────────────────────────────────
 -- none of the frames is a commit
@@ -57,7 +57,7 @@ pub record Copy (page n : ℕ) (fs : List Frame) (k at : ℕ) : Type 0 where
   pub last : NoCopy page after
 
 -- the answer for a log with these valid frames
-abbrev pub ReadsAs : (page n : ℕ) → List Frame → Found → Type 0
+abbrev pub ReadsAs : (page n : ℕ) → List Frame → FoundFrame → Type 0
 ReadsAs page n fs OtherLog = ⊥
 ReadsAs page n fs Nothing = NoCopy page fs
 ReadsAs page n fs (At k at) = Copy page n fs k at

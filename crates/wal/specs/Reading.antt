@@ -8,11 +8,11 @@ use lib.Dec.{eqb, leb, ltb}
 use lib.ListN.{length, drop}
 use Rattle.wal_frame.specs.declared.frame.Frame.{Frame}
 use Rattle.wal_frame.specs.Frame.{frameLength, frameAt}
-use Rattle.wal_scanner.specs.declared.scanning.Commit.{Commit}
-use Rattle.wal_scanner.specs.declared.scanning.Commit.the-variants as commit
-use Rattle.wal_scanner.specs.declared.scanning.Summary.{Summary}
-use Rattle.wal.specs.declared.find.Found.{Found}
-use Rattle.wal.specs.declared.find.Found.the-variants.{OtherLog, Nothing, At}
+use Rattle.wal_frames.specs.declared.scanning.Commit.{Commit}
+use Rattle.wal_frames.specs.declared.scanning.Commit.the-variants as commit
+use Rattle.wal_frames.specs.declared.scanning.Summary.{Summary}
+use Rattle.wal.specs.declared.find.FoundFrame.{FoundFrame}
+use Rattle.wal.specs.declared.find.FoundFrame.the-variants.{OtherLog, Nothing, At}
 use Rattle.wal.specs.declared.list.Listed.{Listed}
 use Rattle.wal.specs.declared.list.Listed.the-variants as listing
 
@@ -33,20 +33,20 @@ committed commit.Nothing = 0
 committed (commit.At frame size) = frame
 
 -- the later of two findings, if there is one, and else this one
-abbrev pub newer : (later this : Found) → Found
+abbrev pub newer : (later this : FoundFrame) → FoundFrame
 newer Nothing this = this
 newer OtherLog this = OtherLog
 newer (At frame at) this = At frame at
 
 -- of some frames of length n, the last that holds the page. The first of them has number `number + 1` and stands at `at`
-unfoldable pub newest : (page n number at : ℕ) → List Frame → Found
+unfoldable pub newest : (page n number at : ℕ) → List Frame → FoundFrame
 newest page n number at [] = Nothing
 newest page n number at (f ∷ fs) =
     newer (newest page n (suc number) (at + n) fs) (cond (eqb (f .page) page) (At (suc number) at) Nothing)
 
 -- 'the last valid instance of page P that is followed by a commit frame or is a commit frame itself': the last of those up to
 -- the last commit
-unfoldable pub found : (page : ℕ) → Summary → List ℕ → Found
+unfoldable pub found : (page : ℕ) → Summary → List ℕ → FoundFrame
 found page s b =
     let n = frameLength (s .header) in
     let count = committed (s .last) in
@@ -71,7 +71,7 @@ written what n b listing.Short list = list
 written what n b (listing.Done count) list = filled what n b count list
 
 -- what came of a call: the lists were `pages` and `sizes`, and are `pages′` and `sizes′`
-pub record Lists (s : Summary) (b pages sizes : List ℕ) (answer : Listed) (pages′ sizes′ : List ℕ) : Type 0 where
+pub record ListsFrames (s : Summary) (b pages sizes : List ℕ) (answer : Listed) (pages′ sizes′ : List ℕ) : Type 0 where
   -- the answer is that of `listed`
   pub told : answer ≡ listed s b (length pages) (length sizes)
   -- the frames' page numbers and commit sizes are written, if the answer is that they are
@@ -80,12 +80,12 @@ pub record Lists (s : Summary) (b pages sizes : List ℕ) (answer : Listed) (pag
 
 -- ── what the function below it asks and answers ──────────────────────────────
 -- the frames lie within the log, and the lists have places for them
-pub record Listable (n : ℕ) (b : List ℕ) (count : ℕ) (pages sizes : List ℕ) : Type 0 where
+pub record CanListFrames (n : ℕ) (b : List ℕ) (count : ℕ) (pages sizes : List ℕ) : Type 0 where
   pub within : 32 + count * n ≤ length b
   pub pages-room : count ≤ length pages
   pub sizes-room : count ≤ length sizes
 
 -- `count` frames are listed
-pub record Filled (n : ℕ) (b : List ℕ) (count : ℕ) (pages sizes pages′ sizes′ : List ℕ) : Type 0 where
+pub record FramesWritten (n : ℕ) (b : List ℕ) (count : ℕ) (pages sizes pages′ sizes′ : List ℕ) : Type 0 where
   pub numbers : pages′ ≡ filled (λ f. f .page) n b count pages
   pub commits : sizes′ ≡ filled (λ f. f .commit) n b count sizes

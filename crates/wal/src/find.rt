@@ -1,14 +1,14 @@
 // The newest committed copy of a page (section 4.5).
 use wal_checksum::number_at;
+use wal_frames::Commit;
+use wal_frames::Summary;
 use wal_header::HEADER_LENGTH;
 use wal_header::Header;
-use wal_scanner::Commit;
-use wal_scanner::Summary;
 ghost use mathlib.Core.Path.{_≡_};
 ghost use Rattle.wal_frame.specs.Frame.{frameLength};
 ghost use Rattle.wal.specs.Reading.{reaches, committed, found};
 
-pub enum Found {
+pub enum FoundFrame {
     // The summary is of another log: its frames reach past the end of this one.
     OtherLog,
     // No committed frame holds the page: it is to be read from the database file.
@@ -19,25 +19,25 @@ pub enum Found {
 
 // The newest committed frame that holds a page. The search goes down from the last commit and reads one number of each frame:
 // the scan that gave the summary has looked at the checksums.
-pub fn find_frame(log: &[u8], summary: Summary, page: u32) -> Found
+pub fn find_frame(log: &[u8], summary: Summary, page: u32) -> FoundFrame
     ensures { λ r. ⌜ r ≡ found page summary (now (log .entry)) ⌝ }
 {
     let header = summary.header;
     let last = summary.last;
     let mut left = committed(last);
     if !reaches(log, header, left) {
-        return Found::OtherLog;
+        return FoundFrame::OtherLog;
     }
     let length = wal_frame::length(header);
     let mut at = HEADER_LENGTH + left * length;
     while left > 0 {
         at -= length;
         if number_at(log, at) == page {
-            return Found::At(left, at);
+            return FoundFrame::At(left, at);
         }
         left -= 1;
     }
-    Found::Nothing
+    FoundFrame::Nothing
 }
 
 // The number of frames up to and with the last commit.

@@ -1,11 +1,11 @@
 // The list of a log's frames.
 use crate::find::reaches;
 use wal_checksum::number_at;
+use wal_frames::Summary;
 use wal_header::HEADER_LENGTH;
 use wal_header::Header;
-use wal_scanner::Summary;
 ghost use Rattle.wal_frame.specs.Frame.{frameLength};
-ghost use Rattle.wal.specs.Reading.{Listable, Lists, Filled};
+ghost use Rattle.wal.specs.Reading.{CanListFrames, ListsFrames, FramesWritten};
 
 pub enum Listed {
     // The summary is of another log: its frames reach past the end of this one.
@@ -20,7 +20,7 @@ pub enum Listed {
 // Places past them keep their values, and a refusal alters nothing.
 pub fn list_frames(log: &[u8], summary: Summary, pages: &mut [u32], sizes: &mut [u32]) -> Listed
     ensures { λ r.
-        ⌜ Lists summary (now (log .entry)) (now (pages .entry)) (now (sizes .entry)) r
+        ⌜ ListsFrames summary (now (log .entry)) (now (pages .entry)) (now (sizes .entry)) r
         (now (pages .exit)) (now (sizes .exit)) ⌝ }
 {
     let header = summary.header;
@@ -37,9 +37,9 @@ pub fn list_frames(log: &[u8], summary: Summary, pages: &mut [u32], sizes: &mut 
 
 // The same where the frames lie within the log, and the lists have places for them.
 fn fill(log: &[u8], header: Header, count: usize, pages: &mut [u32], sizes: &mut [u32])
-    requires { ⌜ Listable (frameLength header) (now log) count (now pages) (now sizes) ⌝ }
+    requires { ⌜ CanListFrames (frameLength header) (now log) count (now pages) (now sizes) ⌝ }
     ensures { λ _.
-        ⌜ Filled (frameLength header) (now (log .entry)) count (now (pages .entry)) (now (sizes .entry))
+        ⌜ FramesWritten (frameLength header) (now (log .entry)) count (now (pages .entry)) (now (sizes .entry))
         (now (pages .exit)) (now (sizes .exit)) ⌝ }
 {
     let length = wal_frame::length(header);

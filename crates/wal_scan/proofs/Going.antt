@@ -6,9 +6,9 @@ use lib.Dec.{eqb}
 use Rattle.wal_header.specs.declared.header.Header.{Header}
 use Rattle.wal_frame.specs.Frame.{frameLength}
 use Rattle.wal_frame.specs.declared.frame.Frame.{Frame}
-use Rattle.wal_scanner.specs.Scan.{startOf, counted, Countable}
-use Rattle.wal_scanner.specs.declared.scanning.Summary.{Summary}
-use Rattle.wal_scanner.proofs.Turns.{commits-few}
+use Rattle.wal_frames.specs.Scan.{startOf, counted, Countable}
+use Rattle.wal_frames.specs.declared.scanning.Summary.{Summary}
+use Rattle.wal_frames.proofs.Turns.{commits-few}
 
 -- no file is longer
 abbrev pub longest : ℕ

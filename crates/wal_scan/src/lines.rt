@@ -5,8 +5,8 @@ use text::put_named;
 use text::put_next;
 use text::put_words;
 use wal_frame::Frame;
-use wal_scanner::Commit;
-use wal_scanner::Summary;
+use wal_frames::Commit;
+use wal_frames::Summary;
 ghost use Prim.Native.Nat.{_+_, _≤_};
 
 pub fn put_page_size(out: &mut [u8; ROOM], at: usize, size: u32) -> usize

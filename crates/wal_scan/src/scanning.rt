@@ -8,11 +8,11 @@ use text::write_first;
 use wal_checksum::Sums;
 use wal_frame::Frame;
 use wal_frame::Next;
+use wal_frames::Summary;
 use wal_header::Fault;
 use wal_header::HEADER_LENGTH;
 use wal_header::Header;
 use wal_header::Opened;
-use wal_scanner::Summary;
 ghost use Prim.Native.Nat.{_≤_};
 ghost use lib.ListN.{length};
 ghost use Rattle.wal_frame.specs.Frame.{frameLength};
@@ -24,7 +24,7 @@ const PIECE: usize = 65560;
 const LONGEST: usize = 9223372036854775807;
 
 // What was found at the next place of the log.
-enum Found {
+enum NextFrame {
     Valid(Frame),
     End,
     // It can't be read.
@@ -64,42 +64,42 @@ fn scan_frames(fd: i32, says: &[u8], piece: &mut [u8; PIECE], header: Header)
 {
     let mut out = [0u8; ROOM];
     let mut at = lines::put_page_size(&mut out, 0, header.page_size);
-    let mut summary = wal_scanner::start(header);
+    let mut summary = wal_frames::start(header);
     while summary.end < LONGEST {
         let sums = summary.sums;
         let found = read_frame(fd, piece, header, sums);
-        let Found::Valid(frame) = found else {
+        let NextFrame::Valid(frame) = found else {
             return finish(says, &mut out, at, summary, found);
         };
         let place = next_place(&out, at);
         if !place.open {
             return;
         }
-        summary = wal_scanner::add_frame(summary, frame);
+        summary = wal_frames::add_frame(summary, frame);
         at = lines::put_frame(&mut out, place.at, summary.frames, frame);
     }
-    finish(says, &mut out, at, summary, Found::End)
+    finish(says, &mut out, at, summary, NextFrame::End)
 }
 
-fn read_frame(fd: i32, piece: &mut [u8], header: Header, sums: Sums) -> Found
+fn read_frame(fd: i32, piece: &mut [u8], header: Header, sums: Sums) -> NextFrame
     requires { ⌜ frameLength header ≤ length (now piece) ⌝ }
 {
     let filled = fill(fd, piece, wal_frame::length(header));
     if filled.failed {
-        return Found::Unread;
+        return NextFrame::Unread;
     }
     let count = filled.count;
     match wal_frame::next_frame(&piece[..count], header, sums) {
-        Next::Valid(frame) => Found::Valid(frame),
-        Next::End => Found::End,
+        Next::Valid(frame) => NextFrame::Valid(frame),
+        Next::End => NextFrame::End,
     }
 }
 
 // Writes out what is left of the output. A log that could not be read to its end has no summary.
-fn finish(says: &[u8], out: &mut [u8; ROOM], at: usize, summary: Summary, found: Found)
+fn finish(says: &[u8], out: &mut [u8; ROOM], at: usize, summary: Summary, found: NextFrame)
     requires { ⌜ at ≤ 110000 ⌝ }
 {
-    if let Found::Unread = found {
+    if let NextFrame::Unread = found {
         // Before anything else is called: the reason is that of the last call of the system that failed.
         os::fail(says);
         write_first(out, at);

@@ -2,7 +2,7 @@
 use borrow.Author.Needs.{needs}
 use native.Mathlib.Omega.{arith}
 use mathlib.Core.Path.{refl, sym, _∙_}
-use Rattle.pool.proofs.Tells.{passes}
+use Rattle.pool.proofs.Decides.{passes}
 use Rattle.contract.proofs.Calling.{lent-typed}
 use Rattle.apply.proofs.Applying.{applied-bad, applied-unsound, applied-ran}
 use Rattle.apply.proofs.apply.Statement.{statement}

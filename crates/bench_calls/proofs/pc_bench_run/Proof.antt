@@ -1,6 +1,6 @@
 -- The memory is tested, and then each record finds it sound.
 use borrow.Author.Needs.{needs}
-use Rattle.pool.proofs.Tells.{passes}
+use Rattle.pool.proofs.Decides.{passes}
 use Rattle.bench_calls.proofs.pc_bench_run.Statement.{statement}
 use Rattle.bench_calls.proofs.pc_bench_run.Tie as tie
 

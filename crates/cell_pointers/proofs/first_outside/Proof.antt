@@ -3,9 +3,9 @@ use mathlib.Core.Path.{_≡_, ap, _∙_}
 use Prim.Native.Nat.{ℕ, _+_, _*_, _-_}
 use borrow.Author.Needs.{needs}
 use native.Mathlib.Omega.{arith}
-use Rattle.page_format.specs.Fields.{half}
-use Rattle.page_format.specs.Rules.{Inside}
-use Rattle.page_format.proofs.Searching.{Looked, look-begins, look-finds, look-on, look-done}
+use Rattle.btree_format.specs.Fields.{half}
+use Rattle.btree_format.specs.Rules.{Inside}
+use Rattle.btree_format.proofs.Searching.{Looked, look-begins, look-finds, look-on, look-done}
 use Rattle.cell_pointers.proofs.Wrapping.{wraps-inside, wraps-outside}
 use Rattle.cell_pointers.proofs.first_outside.Statement.{statement}
 use Rattle.cell_pointers.proofs.first_outside.Tie as tie

@@ -2,7 +2,7 @@
 use Prim.Native.Nat.{_-_}
 use borrow.Author.Needs.{needs}
 use native.Mathlib.Omega.{arith}
-use Rattle.page_format.specs.Rules.{Placed, Sized}
+use Rattle.btree_format.specs.Rules.{Placed, Sized}
 use Rattle.freeblocks.proofs.Walking.{Walked, walk-begins, walk-ends, walk-strays, walk-missized, walk-goes-on, walk-shortens}
 use Rattle.freeblocks.proofs.first_bad.Statement.{statement}
 use Rattle.freeblocks.proofs.first_bad.Tie as tie

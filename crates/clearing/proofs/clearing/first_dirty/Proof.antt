@@ -3,8 +3,8 @@ use Prim.Native.Nat.{_-_}
 use native.Mathlib.Omega.{arith}
 use borrow.Author.Needs.{needs}
 use Rattle.pool.specs.Slots.{entries}
-use Rattle.order.specs.declared.search.By.the-variants.{Key}
-use Rattle.order.proofs.Names.{index-slot}
+use Rattle.sorted_index.specs.declared.search.By.the-variants.{Key}
+use Rattle.sorted_index.proofs.Names.{index-slot}
 use Rattle.clearing.proofs.Hindered.{Clean, clean-start, clean-place, clean-more, clean-ends, clean-done}
 use Rattle.clearing.proofs.clearing.first_dirty.Statement.{statement}
 use Rattle.clearing.proofs.clearing.first_dirty.Tie as tie

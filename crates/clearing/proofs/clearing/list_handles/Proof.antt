@@ -2,8 +2,8 @@
 use Prim.Native.Nat.{_-_}
 use native.Mathlib.Omega.{arith}
 use Rattle.pool.specs.Slots.{entries}
-use Rattle.order.specs.declared.search.By.the-variants.{Key}
-use Rattle.order.proofs.Names.{index-slot}
+use Rattle.sorted_index.specs.declared.search.By.the-variants.{Key}
+use Rattle.sorted_index.proofs.Names.{index-slot}
 use Rattle.clearing.proofs.Handles.{Listing, listing-start, listing-long, listing-more, listing-done}
 use Rattle.clearing.proofs.clearing.list_handles.Statement.{statement}
 use Rattle.clearing.proofs.clearing.list_handles.Tie as tie

@@ -2,7 +2,7 @@
 use mathlib.Core.Path.{refl}
 use native.Mathlib.Omega.{arith}
 use borrow.Author.Needs.{needs}
-use Rattle.pool.proofs.Tells.{fails, passes}
+use Rattle.pool.proofs.Decides.{fails, passes}
 use Rattle.soundness.proofs.Joining.{marks-fit}
 use Rattle.creating.specs.Creation.{done, too-large, bad-lengths}
 use Rattle.creating.proofs.Created.{created-well}

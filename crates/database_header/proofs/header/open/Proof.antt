@@ -2,8 +2,8 @@
 use lib.ListN.{take}
 use native.Mathlib.Omega.{arith}
 use borrow.Author.Needs.{needs}
-use Rattle.page_format.proofs.Obeying.{all-next}
-use Rattle.database_header.specs.Header.{whole, rules, Holds, Obeys}
+use Rattle.btree_format.proofs.Obeying.{all-next}
+use Rattle.database_header.specs.Header.{whole, rules, HeaderRuleHolds, Obeys}
 use Rattle.database_header.proofs.Opening.{unlike, alike, no-size, a-size, too-few, enough, fields}
 use Rattle.database_header.proofs.header.open.Statement.{statement}
 use Rattle.database_header.proofs.header.open.Tie as tie
@@ -17,7 +17,7 @@ known c =
 sized : (c : tie.Else2)
     → Obeys (c .before .before .before .before .before .before .before .before .args .bytes .now) (take 3 rules)
 sized c =
-    all-next (Holds _) whole rules 2 (omega arith) (known (c .before .before .before))
+    all-next (HeaderRuleHolds _) whole rules 2 (omega arith) (known (c .before .before .before))
     (a-size _ (c .before .before .page-size-of .ensures) (c .before .is-page-size .ensures) (c .if2 .left))
 
 returns : tie.Need-returns
@@ -70,7 +70,7 @@ returns-5 c =
     let at-size = c .before .before .before in
     let read = at-size .before .before .page-size-of .ensures in
     record {
-      good = all-next (Holds _) whole rules 3 (omega arith) (sized at-size) (enough _ read (c .before .is-usable .ensures) (c .if3 .left));
+      good = all-next (HeaderRuleHolds _) whole rules 3 (omega arith) (sized at-size) (enough _ read (c .before .is-usable .ensures) (c .if3 .left));
       stored = fields _ read;
     }
 

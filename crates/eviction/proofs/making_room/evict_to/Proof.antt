@@ -5,13 +5,13 @@ use native.Mathlib.Omega.{arith}
 use borrow.Author.Needs.{needs}
 use Rattle.memory.specs.Memory.{memoryOf}
 use Rattle.eviction.proofs.Step.{says-took, says-full}
-use Rattle.eviction.proofs.Underway.{Underway, underway-start, underway-long, underway-done, underway-occupied, underway-place, underway-held, underway-sum, underway-took, underway-full-sum, underway-full}
+use Rattle.eviction.proofs.EvictLoop.{EvictLoop, evict-loop-start, evict-loop-long, evict-loop-done, evict-loop-occupied, evict-loop-place, evict-loop-held, evict-loop-sum, evict-loop-took, evict-loop-full-sum, evict-loop-full}
 use Rattle.eviction.proofs.making_room.evict_to.Statement.{statement}
 use Rattle.eviction.proofs.making_room.evict_to.Tie as tie
 
 abbrev Inv-loop : tie.InvT-loop
 Inv-loop slots₀ by-key₀ by-handle₀ marks₀ list₀ listed target left₀ passed₀ count₀ slots by-key by-handle marks list left passed count =
-    Underway (memoryOf slots₀ by-key₀ by-handle₀ marks₀) left₀ list₀ listed target (memoryOf slots by-key by-handle marks) left list passed count
+    EvictLoop (memoryOf slots₀ by-key₀ by-handle₀ marks₀) left₀ list₀ listed target (memoryOf slots by-key by-handle marks) left list passed count
 
 abbrev μ-loop : tie.MeasureT-loop
 μ-loop slots₀ by-key₀ by-handle₀ marks₀ list₀ listed target left₀ passed₀ count₀ slots by-key by-handle marks list left passed count =
@@ -38,12 +38,12 @@ eviction-took c = c .before .before .before .before .before .before .before .bef
 loop-holds : tie.Need-loop-holds Inv-loop μ-loop
 loop-holds c =
     let begin = c .before .before .before .before .before in
-    underway-start (begin .args .target) (begin .pre)
+    evict-loop-start (begin .args .target) (begin .pre)
 
 evict-one-requires : tie.Need-evict-one-requires Inv-loop μ-loop
 evict-one-requires c κs =
     let turn = c .before .before .before .before in
-    underway-occupied (loop-of turn .loop .inv) (turn .if1 .taken)
+    evict-loop-occupied (loop-of turn .loop .inv) (turn .if1 .taken)
 
 enum-known-swept : tie.Need-enum-known-swept Inv-loop μ-loop
 enum-known-swept c = search needs
@@ -54,7 +54,7 @@ add-sum c =
     let turn = turn-of eviction in
     omega (
       arith,
-      underway-full-sum (loop-of turn .loop .inv) (turn .if1 .taken)
+      evict-loop-full-sum (loop-of turn .loop .inv) (turn .if1 .taken)
           (λ w H. says-full _ _ _ _ (c .before .swept .given .1) (eviction .evict-one .ensures w H)),
     )
 
@@ -71,13 +71,13 @@ same-length-4 : tie.Need-same-length-4 Inv-loop μ-loop
 same-length-4 c = eviction-full c .evict-one .kept .1 .1 .1 .0 ∙ loop-of (turn-of (eviction-full c)) .loop .inv .same .marks
 
 same-length-5 : tie.Need-same-length-5 Inv-loop μ-loop
-same-length-5 c = underway-long (loop-of (turn-of (eviction-full c)) .loop .inv)
+same-length-5 c = evict-loop-long (loop-of (turn-of (eviction-full c)) .loop .inv)
 
 returns : tie.Need-returns Inv-loop μ-loop
 returns c =
     let eviction = eviction-full c in
     let turn = turn-of eviction in
-    underway-full (loop-of turn .loop .inv) (turn .if1 .taken)
+    evict-loop-full (loop-of turn .loop .inv) (turn .if1 .taken)
     (λ w H. says-full _ _ _ _ (c .before .swept .given .1) (eviction .evict-one .ensures w H))
 
 enum-known-handle : tie.Need-enum-known-handle Inv-loop μ-loop
@@ -86,17 +86,17 @@ enum-known-handle c = search needs
 mul-list : tie.Need-mul-list Inv-loop μ-loop
 mul-list c =
     let turn = turn-of (eviction-took c) in
-    omega (arith, underway-place (loop-of turn .loop .inv) (turn .if1 .taken), underway-long (loop-of turn .loop .inv), start (loop-of turn) .good)
+    omega (arith, evict-loop-place (loop-of turn .loop .inv) (turn .if1 .taken), evict-loop-long (loop-of turn .loop .inv), start (loop-of turn) .good)
 
 slice-write-list : tie.Need-slice-write-list Inv-loop μ-loop
 slice-write-list c =
     let turn = turn-of (eviction-took c) in
-    underway-place (loop-of turn .loop .inv) (turn .if1 .taken)
+    evict-loop-place (loop-of turn .loop .inv) (turn .if1 .taken)
 
 add-count : tie.Need-add-count Inv-loop μ-loop
 add-count c =
     let turn = turn-of (eviction-took c) in
-    omega (arith, underway-place (loop-of turn .loop .inv) (turn .if1 .taken), underway-long (loop-of turn .loop .inv), start (loop-of turn) .good)
+    omega (arith, evict-loop-place (loop-of turn .loop .inv) (turn .if1 .taken), evict-loop-long (loop-of turn .loop .inv), start (loop-of turn) .good)
 
 add-passed : tie.Need-add-passed Inv-loop μ-loop
 add-passed c =
@@ -104,7 +104,7 @@ add-passed c =
     let turn = turn-of eviction in
     omega (
       arith,
-      underway-sum (loop-of turn .loop .inv) (turn .if1 .taken)
+      evict-loop-sum (loop-of turn .loop .inv) (turn .if1 .taken)
           (λ w H. says-took _ _ _ _ (c .before .handle .given .1) (eviction .evict-one .ensures w H)),
     )
 
@@ -114,7 +114,7 @@ loop-less c =
     let turn = turn-of eviction in
     omega (
       arith,
-      underway-held (loop-of turn .loop .inv) (turn .if1 .taken)
+      evict-loop-held (loop-of turn .loop .inv) (turn .if1 .taken)
           (λ w H. says-took _ _ _ _ (c .before .handle .given .1) (eviction .evict-one .ensures w H)),
     )
 
@@ -123,7 +123,7 @@ loop-again c =
     let eviction = eviction-took c in
     let turn = turn-of eviction in
     let kept = eviction .evict-one .kept in
-    underway-took (loop-of turn .loop .inv) (turn .if1 .taken)
+    evict-loop-took (loop-of turn .loop .inv) (turn .if1 .taken)
     (λ w H. says-took _ _ _ _ (c .before .handle .given .1) (eviction .evict-one .ensures w H))
     (record { slots = kept .0; by-key = kept .1 .0; by-handle = kept .1 .1 .0; marks = kept .1 .1 .1 .0 })
 
@@ -140,10 +140,10 @@ same-length-9 : tie.Need-same-length-9 Inv-loop μ-loop
 same-length-9 c = c .before .before .loop .inv .same .marks
 
 same-length-10 : tie.Need-same-length-10 Inv-loop μ-loop
-same-length-10 c = underway-long (c .before .before .loop .inv)
+same-length-10 c = evict-loop-long (c .before .before .loop .inv)
 
 returns-2 : tie.Need-returns-2 Inv-loop μ-loop
-returns-2 c = underway-done (c .before .before .loop .inv) (c .if1 .left)
+returns-2 c = evict-loop-done (c .before .before .loop .inv) (c .if1 .left)
 
 pub evict-to-spec : {M : Type 1} → statement M
 evict-to-spec =

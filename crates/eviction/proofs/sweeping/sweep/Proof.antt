@@ -4,7 +4,7 @@ use mathlib.Core.Path.{_∙_}
 use Prim.Native.Nat.{_-_}
 use native.Mathlib.Omega.{arith}
 use borrow.Author.Needs.{needs}
-use Rattle.eviction.proofs.Midway.{Going, going-start, going-inside, going-passed, going-taken, going-full}
+use Rattle.eviction.proofs.SweepLoop.{Going, going-start, going-inside, going-passed, going-taken, going-full}
 use Rattle.eviction.proofs.sweeping.sweep.Statement.{statement}
 use Rattle.eviction.proofs.sweeping.sweep.Tie as tie
 

@@ -1,5 +1,5 @@
 -- The mark is the lowest digit of the word shifted down.
-use Rattle.pool.proofs.Tells.{tells-eq}
+use Rattle.pool.proofs.Decides.{decides-eq}
 use borrow.Author.Needs.{needs}
 use Rattle.free_marks.proofs.marks.is_free.Statement.{statement}
 use Rattle.free_marks.proofs.marks.is_free.Tie as tie
@@ -20,7 +20,7 @@ shr-result : tie.Need-shr-result
 shr-result c = search needs
 
 returns : tie.Need-returns
-returns c = tells-eq _ 1
+returns c = decides-eq _ 1
 
 pub is-free-spec : {M : Type 1} → statement M
 is-free-spec =

@@ -3,7 +3,7 @@
 use Prim.Native.Nat.{_*_, _-_}
 use native.Mathlib.Omega.{arith}
 use lib.ListN.{length}
-use Rattle.pool.proofs.Tells.{fails, passes}
+use Rattle.pool.proofs.Decides.{fails, passes}
 use Rattle.free_marks.proofs.Marking.{HeldBelow, below-none, below-more, below-inside, below-found}
 use Rattle.free_marks.proofs.marks.lowest_free.Statement.{statement}
 use Rattle.free_marks.proofs.marks.lowest_free.Tie as tie

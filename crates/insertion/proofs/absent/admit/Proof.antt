@@ -1,4 +1,4 @@
--- Room is made, or the form decides whether the page goes in without it. The gaps are right for the memory with the room.
+-- Room is made, or the mode decides whether the page goes in without it. The gaps are right for the memory with the room.
 use borrow.Author.Needs.{needs}
 use native.Mathlib.Omega.{arith}
 use mathlib.Core.Path.{_∙_}
@@ -61,7 +61,7 @@ place-requires c κs =
     let test = tested gaps in
     let room = room-of test in
     let begin = start room in
-    room-placeable (begin .pre .holds) (room .make-room-for .ensures _ (begin .pre .holds)) (begin .args .asked .form) (test .goes-in .ensures)
+    room-placeable (begin .pre .holds) (room .make-room-for .ensures _ (begin .pre .holds)) (begin .args .asked .mode) (test .goes-in .ensures)
     (begin .pre .kept) (gaps .gaps-now .ensures) (begin .pre .flags) (goes-of gaps .if1 .left)
 
 same-length-6 : tie.Need-same-length-6

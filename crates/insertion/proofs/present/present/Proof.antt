@@ -1,11 +1,11 @@
--- What the form decides, and then the two handles.
+-- What the mode decides, and then the two handles.
 use borrow.Author.Needs.{needs}
 use mathlib.Core.Path.{sym, _∙_}
 use Rattle.insertion.proofs.Presents.{present-inside, touched-replaceable, presents-replaced, presents-other, presents-same}
 use Rattle.insertion.proofs.present.present.Statement.{statement}
 use Rattle.insertion.proofs.present.present.Tie as tie
 
--- from the test of the form back to the start
+-- from the test of the mode back to the start
 abbrev start-of : tie.After-replaces → tie.Start
 start-of c = c .before .before .before .before .before .before
 

@@ -48,7 +48,7 @@ use Rattle.page.proofs.names.Slot.Laws as slot-laws
 use Rattle.memory.specs.Memory.{Memory}
 use Rattle.listing.specs.declared.testing.Admission.{Admission}
 use Rattle.listing.specs.declared.listed.ListedPage.{ListedPage}
-use Rattle.listing.specs.Listing.{inRecords, Lists}
+use Rattle.listing.specs.Listing.{inRecords, WritesRow}
 use Rattle.listing.specs.Outcome.{Admits}
 use Rattle.listing.proofs.Outcomes.{records-fit, admitted, comes}
 use Rattle.listing.proofs.testing.Admission as admission-type
@@ -232,7 +232,7 @@ module _ {M : Type 1} (𝓤 : URA M) (H : Heap 𝓤) (A : Atoms 𝓤) (W : Given
   abbrev answer-val : Admission → Val
   answer-val p = enum-laws.val answer-type.the-type answer-laws.the-laws (p .answer)
 
-  exits : (p : Admission) (zs : List ListedPage) → length zs ≡ length ys → Is answer-type.the-row (p .answer) (answer-val p ∷ []) → Admits m head (length ys) p → Lists inRecords (slots .now) (head .hand .0) (p .count) ys zs
+  exits : (p : Admission) (zs : List ListedPage) → length zs ≡ length ys → Is answer-type.the-row (p .answer) (answer-val p ∷ []) → Admits m head (length ys) p → WritesRow inRecords (slots .now) (head .hand .0) (p .count) ys zs
       → ent 𝓤 (⋆ 𝓤 H A ((‵ (flft κ₀ q₀) ⊛ ‵ (flft κ₄ q₄) ⊛ ‵ ftrue) ∷ ‵ (finally R (list .name) zs) ∷ (‵ (flft κ₁ q₁) ⊛ ‵ (flft κ₂ q₂) ⊛ ‵ (flft κ₃ q₃) ⊛ ‵ ftrue) ∷ [])) (Post (answer-val p))
   exits p zs long answer-is admits lists =
       qed W ((‵ (flft κ₀ q₀) ⊛ ‵ (flft κ₄ q₄) ⊛ ‵ ftrue) ∷ ‵ (finally R (list .name) zs) ∷ (‵ (flft κ₁ q₁) ⊛ ‵ (flft κ₂ q₂) ⊛ ‵ (flft κ₃ q₃) ⊛ ‵ ftrue) ∷ []) ∵
@@ -281,8 +281,8 @@ module _ {M : Type 1} (𝓤 : URA M) (H : Heap 𝓤) (A : Atoms 𝓤) (W : Given
         (and-then ! (load ! (from ! (stop !)) (look ! 2 refl)) (no-more !))))) (λ w.
         use1 W (later (some (λ (r : Unit {0}). ((‵ (flft κ₀ q₀) ⊛ ‵ (flft κ₄ q₄) ⊛ ‵ ftrue) ⊛ ‵ (unit .own r (w ∷ []))) ⊛ raw (ensured 𝓤 H A records.ended (records.clauses 𝓤 H A mem run) (κ₀, (κ₄, tt)) (to-records p .0 .3) tt r)))) (id⊢ 𝓤 _) $ await ! tt $ pick ! (λ r.
         -- what `list_records` ensures, at some last elements
-        split ! $ move ! (1 ∷ []) $ use1 W (some (λ (ws : Unit {0} × (Unit {0} × (Unit {0} × (List ListedPage × Unit {0})))). ‵ (lasts records.ended (κ₀, (κ₄, tt)) (to-records p .0 .3) ws) ⊛ raw (fact 𝓤 (Lists inRecords (slots .now) (head .hand .0) (p .count) ys (ws .1 .1 .1 .0))))) (id⊢ 𝓤 _) $ pick ! (λ ws.
-        split ! $ move ! (1 ∷ []) $ heard ! (Lists inRecords (slots .now) (head .hand .0) (p .count) ys (ws .1 .1 .1 .0)) (λ lists.
+        split ! $ move ! (1 ∷ []) $ use1 W (some (λ (ws : Unit {0} × (Unit {0} × (Unit {0} × (List ListedPage × Unit {0})))). ‵ (lasts records.ended (κ₀, (κ₄, tt)) (to-records p .0 .3) ws) ⊛ raw (fact 𝓤 (WritesRow inRecords (slots .now) (head .hand .0) (p .count) ys (ws .1 .1 .1 .0))))) (id⊢ 𝓤 _) $ pick ! (λ ws.
+        split ! $ move ! (1 ∷ []) $ heard ! (WritesRow inRecords (slots .now) (head .hand .0) (p .count) ys (ws .1 .1 .1 .0)) (λ lists.
         fsplit ! $ drop ! $ fsplit ! $ drop ! $ fsplit ! $ drop ! $ fsplit ! $ fsplit ! $ move ! (1 ∷ []) $ feqL ! (λ long.
         -- [the last elements; true; the two tokens and the result; the other tokens; …]
         move ! (2 ∷ []) $ split ! $ move ! (1 ∷ []) $ peeks ! unit (Is unit) (shows 𝓤 H A unit) r (w ∷ []) (λ unit-is. drop ! $ move ! (2 ∷ []) $ drop ! $

@@ -54,7 +54,7 @@ use Rattle.page.proofs.names.Slot.Laws as slot-laws
 use Rattle.pool.specs.Slots.{entries}
 use Rattle.listing.specs.declared.listed.ListedPage.{ListedPage}
 use Rattle.listing.specs.declared.listed.RingPage.{RingPage}
-use Rattle.listing.specs.Listing.{ringPageAt, inRecords, Listable, Lists}
+use Rattle.listing.specs.Listing.{ringPageAt, inRecords, CanListRow, WritesRow}
 use Rattle.listing.proofs.Filling.{Recording, filling-none, filling-inside, recording-more, recording-done}
 use Rattle.listing.proofs.listed.ListedPage as page-type
 use Rattle.listing.proofs.listed.ListedPage.Laws as page-laws
@@ -170,7 +170,7 @@ module _ {M : Type 1} (𝓤 : URA M) (H : Heap 𝓤) (A : Atoms 𝓤) (W : Given
   said s p = exE 𝓤 _ (λ ws. snd∗ 𝓤 (sem 𝓤 H A (lasts page-at.ended (κ, tt) (slots, (s, tt)) ws)) (fact 𝓤 (p ≡ ringPageAt (entries (slots .now)) (s .0))))
 
   -- ── the end ──────────────────────────────────────────────────────────────────
-  exits : (zs : List ListedPage) → length zs ≡ length ys → Room R (length ys) → Lists inRecords (slots .now) (hand .0) n ys zs
+  exits : (zs : List ListedPage) → length zs ≡ length ys → Room R (length ys) → WritesRow inRecords (slots .now) (hand .0) n ys zs
       → ent 𝓤 (⋆ 𝓤 H A (‵ (fobs γ (codedHoleys R .code (heres R zs))) ∷ ‵ (fbor κ′ (Held R (length zs) b o γ)) ∷ ‵ (flft κ′ q′) ∷ ‵ (flft κ q) ∷ [])) (Post vunit)
   exits zs long room ok =
       qed W (‵ (fobs γ (codedHoleys R .code (heres R zs))) ∷ ‵ (fbor κ′ (Held R (length zs) b o γ)) ∷ ‵ (flft κ′ q′) ∷ ‵ (flft κ q) ∷ []) ∵
@@ -256,7 +256,7 @@ module _ {M : Type 1} (𝓤 : URA M) (H : Heap 𝓤) (A : Atoms 𝓤) (W : Given
         next-fits = omega arith
 
     -- the turn that leaves the loop, and the rest of the body: the borrow is closed at what is listed
-    ends : (s : Slot) (zs : List ListedPage) (X : SProp 𝓤) → length zs ≡ length ys → Lists inRecords (slots .now) (hand .0) n ys zs → ent 𝓤 (⋆ 𝓤 H A (At s n zs)) (Wp 𝓤 H C Λ En turn (afterTurn 𝓤 H X Left))
+    ends : (s : Slot) (zs : List ListedPage) (X : SProp 𝓤) → length zs ≡ length ys → WritesRow inRecords (slots .now) (hand .0) n ys zs → ent 𝓤 (⋆ 𝓤 H A (At s n zs)) (Wp 𝓤 H C Λ En turn (afterTurn 𝓤 H X Left))
     unfolding afterTurn
     ends s zs X long ok =
         qed W (At s n zs) ∵ exec ! C Λ En turn (anyQ (afterTurn 𝓤 H X Left)) $
@@ -328,7 +328,7 @@ module _ {M : Type 1} (𝓤 : URA M) (H : Heap 𝓤) (A : Atoms 𝓤) (W : Given
         keep ! (0 ∷ 14 ∷ 12 ∷ 10 ∷ 8 ∷ 6 ∷ 4 ∷ 22 ∷ 20 ∷ 18 ∷ 16 ∷ 24 ∷ 26 ∷ 27 ∷ 1 ∷ 2 ∷ 3 ∷ 25 ∷ 23 ∷ 21 ∷ 19 ∷ 17 ∷ 15 ∷ 13 ∷ 11 ∷ 9 ∷ 7 ∷ 5 ∷ []) $
         by ! (loops start)
 
-  walk : (𝓣 : Tables 𝓤 H) → Triple 𝓤 (𝓣 .C #page-at) (PageAt 𝓤 H A mem run) → Room u64 (length (slots .now)) → hand .0 < 2 ^ 32 → n < 2 ^ 64 → Room R (length ys) → Listable inRecords (slots .now) (hand .0) n ys
+  walk : (𝓣 : Tables 𝓤 H) → Triple 𝓤 (𝓣 .C #page-at) (PageAt 𝓤 H A mem run) → Room u64 (length (slots .now)) → hand .0 < 2 ^ 32 → n < 2 ^ 64 → Room R (length ys) → CanListRow inRecords (slots .now) (hand .0) n ys
       → ent 𝓤 (onEntry 𝓤 H A f.signature (κ, (κ′, tt)) (q, (q′, tt)) a at) (WpFn 𝓤 H (𝓣 .C) (𝓣 .Λ) function (slots-val ∷ slotVal hand ∷ vint w64 n ∷ list-val ∷ []) Post)
   walk 𝓣 known slots-room hand-fits n-fits list-room ready =
       qed W ((‵ (flft κ q) ⊛ ‵ (flft κ′ q′) ⊛ ‵ ftrue) ∷ ‵ (owns (ShrSlice (named 0) κ u64 ∷ slot-type.the-row ∷ usize ∷ MutSlice (named 1) κ′ R ∷ []) a at) ∷ []) ∵
@@ -346,7 +346,7 @@ module _ {M : Type 1} (𝓤 : URA M) (H : Heap 𝓤) (A : Atoms 𝓤) (W : Given
   list-records-walks = walked 𝓤 H A f.ended stayed (f.clauses 𝓤 H A mem run) (WpFn 𝓤 H (𝓣 .C) (𝓣 .Λ) function)
       (λ κs. (slice-vals, (struct-laws.vals slot-type.the-type slot-laws.the-laws, (uint-vals w64, (slice-vals, tt)))))
       (λ κs. (shr-slice-tells (named 0) (κs .0) u64, (struct-laws.tells slot-type.the-type slot-laws.the-laws, (uint-tells w64, (mut-slice-tells (named 1) (κs .1 .0) R, tt)))))
-      (λ κs qs bounds a g are. needs 𝓤 (Listable inRecords (a .0 .now) (a .1 .0 .0) (a .1 .1 .0) (a .1 .1 .1 .0 .now)) _ (λ ready.
+      (λ κs qs bounds a g are. needs 𝓤 (CanListRow inRecords (a .0 .now) (a .1 .0 .0) (a .1 .1 .0) (a .1 .1 .1 .0 .now)) _ (λ ready.
       walk 𝓤 H A W mem run (κs .0) (κs .1 .0) (qs .0) (qs .1 .0) (a .0) (a .1 .0) (a .1 .1 .0) (a .1 .1 .1 .0 .ptr .0) (a .1 .1 .1 .0 .ptr .1) (a .1 .1 .1 .0 .name) (a .1 .1 .1 .0 .now)
       𝓣 known (are .0 .0 .1) (struct-laws.owed slot-type.the-type slot-laws.the-laws (a .1 .0) _ (are .1 .0) .0 .1) (are .1 .1 .0 .1) (are .1 .1 .1 .0 .0 .1) ready))
 

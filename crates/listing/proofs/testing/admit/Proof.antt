@@ -1,7 +1,7 @@
 -- Each answer is given after the tests that it follows from.
 use mathlib.Core.Path.{refl}
 use borrow.Author.Needs.{needs}
-use Rattle.pool.proofs.Tells.{fails, passes}
+use Rattle.pool.proofs.Decides.{fails, passes}
 use Rattle.listing.specs.Outcome.{all-listed, not-sound, too-short}
 use Rattle.listing.proofs.testing.admit.Statement.{statement}
 use Rattle.listing.proofs.testing.admit.Tie as tie

@@ -1,6 +1,6 @@
 -- The same handle is the same name. Under another one the slot goes out of the index and comes back.
 use borrow.Author.Needs.{needs}
-use Rattle.order.proofs.Listed.{listed-index}
+use Rattle.sorted_index.proofs.Listed.{listed-index}
 use Rattle.moves.proofs.Relisting.{relisted-same, relist-some, relist-room, relisted-anew}
 use Rattle.moves.proofs.changing.relist.Statement.{statement}
 use Rattle.moves.proofs.changing.relist.Tie as tie

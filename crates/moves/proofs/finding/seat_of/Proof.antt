@@ -4,10 +4,10 @@ use native.Mathlib.Omega.{arith}
 use denote.Ref.{now}
 use borrow.Author.Needs.{needs}
 use Rattle.pool.specs.Slots.{entries}
-use Rattle.order.specs.Names.{names}
-use Rattle.order.specs.Index.{Found}
-use Rattle.order.specs.declared.search.Spot.{Spot}
-use Rattle.order.specs.declared.search.By.the-variants.{Key}
+use Rattle.sorted_index.specs.Names.{names}
+use Rattle.sorted_index.specs.Index.{FoundSpot}
+use Rattle.sorted_index.specs.declared.search.Spot.{Spot}
+use Rattle.sorted_index.specs.declared.search.By.the-variants.{Key}
 use Rattle.moves.proofs.Search.{key-hit, key-miss}
 use Rattle.moves.proofs.finding.seat_of.Statement.{statement}
 use Rattle.moves.proofs.finding.seat_of.Tie as tie
@@ -20,7 +20,7 @@ here c = c .before .before .before
 
 -- what the search says, once its answer is known
 says : (c : tie.After-find) {spot : Spot} → c .find .result ≡ spot
-    → Found (names Key (entries (now (start c .args .slots)))) (now (start c .args .by-key)) (start c .args .held) (start c .args .key .0) spot
+    → FoundSpot (names Key (entries (now (start c .args .slots)))) (now (start c .args .by-key)) (start c .args .held) (start c .args .key .0) spot
 says c e = rw e at (c .find .ensures)
 
 mul-t12 : tie.Need-mul-t12

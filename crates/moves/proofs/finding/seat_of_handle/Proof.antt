@@ -4,11 +4,11 @@ use native.Mathlib.Omega.{arith}
 use denote.Ref.{now}
 use borrow.Author.Needs.{needs}
 use Rattle.pool.specs.Slots.{entries}
-use Rattle.order.specs.Names.{names}
-use Rattle.order.specs.Index.{Found}
-use Rattle.order.specs.declared.search.Spot.{Spot}
-use Rattle.order.specs.declared.search.By.the-variants.{Handle}
-use Rattle.order.proofs.Names.{index-slot}
+use Rattle.sorted_index.specs.Names.{names}
+use Rattle.sorted_index.specs.Index.{FoundSpot}
+use Rattle.sorted_index.specs.declared.search.Spot.{Spot}
+use Rattle.sorted_index.specs.declared.search.By.the-variants.{Handle}
+use Rattle.sorted_index.proofs.Names.{index-slot}
 use Rattle.moves.proofs.Search.{handle-new, handle-here, handle-elsewhere}
 use Rattle.moves.proofs.finding.seat_of_handle.Statement.{statement}
 use Rattle.moves.proofs.finding.seat_of_handle.Tie as tie
@@ -25,7 +25,7 @@ unread c = c .before .before
 
 -- what the search says, once its answer is known
 says : (c : tie.After-find) {spot : Spot} → c .find .result ≡ spot
-    → Found (names Handle (entries (now (start c .args .slots)))) (now (start c .args .by-handle)) (start c .args .held) (start c .args .handle .0) spot
+    → FoundSpot (names Handle (entries (now (start c .args .slots)))) (now (start c .args .by-handle)) (start c .args .held) (start c .args .handle .0) spot
 says c e = rw e at (c .find .ensures)
 
 mul-if1 : tie.Need-mul-if1

@@ -2,7 +2,7 @@
 use Prim.Native.Nat.{_-_}
 use native.Mathlib.Omega.{arith}
 use Rattle.pool.specs.Slots.{entries}
-use Rattle.order.specs.Names.{names}
+use Rattle.sorted_index.specs.Names.{names}
 use Rattle.soundness.proofs.Ordering.{OrderedTo, ordered-none, ordered-more, ordered-yes, ordered-wild, ordered-free, ordered-low}
 use Rattle.soundness.proofs.index.is_ordered.Statement.{statement}
 use Rattle.soundness.proofs.index.is_ordered.Tie as tie

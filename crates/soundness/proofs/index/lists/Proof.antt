@@ -1,6 +1,6 @@
 -- The two passes are the two parts.
 use borrow.Author.Needs.{needs}
-use Rattle.pool.proofs.Tells.{passes, refuses, tells-as}
+use Rattle.pool.proofs.Decides.{passes, refuses, decides-as}
 use Rattle.soundness.proofs.index.lists.Statement.{statement}
 use Rattle.soundness.proofs.index.lists.Tie as tie
 
@@ -14,7 +14,7 @@ is-clear-from-requires : tie.Need-is-clear-from-requires
 is-clear-from-requires c κs = search needs
 
 returns-2 : tie.Need-returns-2
-returns-2 c = tells-as (c .is-clear-from .ensures) (λ p. record { ordered = passes (c .before .before .is-ordered .ensures) (c .before .if1 .left); clear = p }) (λ p. p .clear)
+returns-2 c = decides-as (c .is-clear-from .ensures) (λ p. record { ordered = passes (c .before .before .is-ordered .ensures) (c .before .if1 .left); clear = p }) (λ p. p .clear)
 
 pub lists-spec : {M : Type 1} → statement M
 lists-spec = tie.close (tie.spec is-ordered-requires returns is-clear-from-requires returns-2)

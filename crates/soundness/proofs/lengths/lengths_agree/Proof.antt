@@ -2,8 +2,8 @@
 use mathlib.Core.Path.{refl}
 use native.Mathlib.Omega.{arith}
 use borrow.Author.Needs.{needs}
-use Rattle.pool.proofs.Tells.{tells-no, tells-eq, tells-and, tells-as}
-use Rattle.soundness.proofs.Passes.{tells-le}
+use Rattle.pool.proofs.Decides.{decides-no, decides-eq, decides-and, decides-as}
+use Rattle.soundness.proofs.Passes.{decides-le}
 use Rattle.soundness.proofs.lengths.lengths_agree.Statement.{statement}
 use Rattle.soundness.proofs.lengths.lengths_agree.Tie as tie
 
@@ -11,7 +11,7 @@ cast-if1 : tie.Need-cast-if1
 cast-if1 c = search needs
 
 returns : tie.Need-returns
-returns c = tells-no (λ a. omega (arith, a .most, c .if1 .taken))
+returns c = decides-no (λ a. omega (arith, a .most, c .if1 .taken))
 
 mul-result : tie.Need-mul-result
 mul-result c = search needs
@@ -20,7 +20,7 @@ add-result : tie.Need-add-result
 add-result c = search needs
 
 returns-2 : tie.Need-returns-2
-returns-2 c = tells-as (tells-and (tells-and (tells-and (tells-le 1 _) (tells-eq _ _)) (tells-eq _ _)) (tells-eq _ _))
+returns-2 c = decides-as (decides-and (decides-and (decides-and (decides-le 1 _) (decides-eq _ _)) (decides-eq _ _)) (decides-eq _ _))
     (λ p. record {
       lengths = record { slots = p .0 .0 .1; by-key = refl; by-handle = p .0 .1; marks = p .1 };
       some = p .0 .0 .0;

@@ -1,7 +1,7 @@
 -- Each pass may refuse, since sound memory passes them all; and if none refuses, they come to soundness.
 use native.Mathlib.Omega.{arith}
 use borrow.Author.Needs.{needs}
-use Rattle.pool.proofs.Tells.{passes, refuses}
+use Rattle.pool.proofs.Decides.{passes, refuses}
 use Rattle.soundness.proofs.Joining.{sound-checked, marks-fit, readable, keys-orderable, handles-orderable, last-decides}
 use Rattle.soundness.proofs.sound.is_sound.Statement.{statement}
 use Rattle.soundness.proofs.sound.is_sound.Tie as tie
@@ -64,8 +64,8 @@ lists-requires-2 c κs =
 returns-6 : tie.Need-returns-6
 returns-6 c = refuses (c .before .lists2 .ensures) (c .if6 .taken) (λ s. sound-checked s .handles)
 
-all-proper-requires : tie.Need-all-proper-requires
-all-proper-requires c κs =
+all-slots-good-requires : tie.Need-all-slots-good-requires
+all-slots-good-requires c κs =
     let keys = c .before .before in
     let ring = keys .before .before .before in
     let marks = ring .before .before in
@@ -88,7 +88,7 @@ returns-7 c =
     (passes (ring .before .is-ring .ensures) (ring .if4 .left))
     (passes (keys .before .lists .ensures) (keys .if5 .left))
     (passes (handles .before .lists2 .ensures) (handles .if6 .left))
-    (c .all-proper .ensures)
+    (c .all-slots-good .ensures)
 
 pub is-sound-spec : {M : Type 1} → statement M
 is-sound-spec =
@@ -108,5 +108,5 @@ is-sound-spec =
     returns-5
     lists-requires-2
     returns-6
-    all-proper-requires
+    all-slots-good-requires
     returns-7)

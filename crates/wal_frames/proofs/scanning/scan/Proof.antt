@@ -1,0 +1,42 @@
+-- The header is refused, or the frames after it are read.
+use borrow.Author.Needs.{needs}
+use mathlib.Core.Path.{sym, _∙_}
+use Rattle.wal_header.proofs.Opening.{opened-long}
+use Rattle.wal_frames.proofs.Turns.{scanned-refused, scanned-read}
+use Rattle.wal_frames.proofs.scanning.scan.Statement.{statement}
+use Rattle.wal_frames.proofs.scanning.scan.Tie as tie
+
+open-requires : tie.Need-open-requires
+open-requires c κs = search needs
+
+enum-known-fault : tie.Need-enum-known-fault
+enum-known-fault c = search needs
+
+enum-known-header : tie.Need-enum-known-header
+enum-known-header c = search needs
+
+scan-frames-requires : tie.Need-scan-frames-requires
+scan-frames-requires c κs =
+    let at-open = c .before .before .before in
+    opened-long (at-open .before .before .args .log .now) (sym (at-open .«open» .ensures) ∙ c .before .header .given .1)
+
+returns : tie.Need-returns
+returns c =
+    let at-open = c .before .before .before in
+    scanned-refused _ (sym (at-open .«open» .ensures) ∙ c .before .fault .given .1)
+
+returns-2 : tie.Need-returns-2
+returns-2 c =
+    let at-open = c .before .before .before .before in
+    scanned-read _ (sym (at-open .«open» .ensures) ∙ c .before .before .header .given .1) (c .scan-frames .ensures)
+
+pub scan-spec : {M : Type 1} → statement M
+scan-spec =
+    tie.close
+    (tie.spec
+    open-requires
+    enum-known-fault
+    enum-known-header
+    scan-frames-requires
+    returns
+    returns-2)
