@@ -35,21 +35,6 @@ loop-holds c =
       done = omega arith;
     }
 
-mul-from : tie.Need-mul-from Inv-loop μ-loop
-mul-from c = search needs
-
-add-end : tie.Need-add-end Inv-loop μ-loop
-add-end c = search needs
-
-sub-run-one : tie.Need-sub-run-one Inv-loop μ-loop
-sub-run-one c = search needs
-
-part-run-one-start : tie.Need-part-run-one-start Inv-loop μ-loop
-part-run-one-start c = search needs
-
-part-run-one-end : tie.Need-part-run-one-end Inv-loop μ-loop
-part-run-one-end c = search needs
-
 run-one-requires : tie.Need-run-one-requires Inv-loop μ-loop
 run-one-requires c κs = c .before .before .before .before .before .before .before .loop .inv .sound
 
@@ -103,11 +88,7 @@ run-each-spec =
     Inv-loop
     μ-loop
     loop-holds
-    mul-from
-    add-end
-    sub-run-one
-    part-run-one-start
-    part-run-one-end
+    (λ c. search needs) (λ c. search needs) (λ c. search needs) (λ c. search needs) (λ c. search needs)
     run-one-requires
     add-i
     loop-less

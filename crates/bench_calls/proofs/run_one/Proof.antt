@@ -8,35 +8,11 @@ use Rattle.bench_calls.proofs.run_one.Tie as tie
 abbrev start-of : tie.After-decode → tie.Start
 start-of c = c .before .before .before .before .before .before .before
 
-decode-requires : tie.Need-decode-requires
-decode-requires c κs = search needs
-
-enum-known-asked : tie.Need-enum-known-asked
-enum-known-asked c = search needs
-
-enum-told : tie.Need-enum-told
-enum-told c = search needs
-
 returns : tie.Need-returns
 returns c = start-of (c .before .before) .pre
 
 dispatch-requires : tie.Need-dispatch-requires
 dispatch-requires c κs = record { sound = λ _ _. start-of (c .before .before .before .before .before .before .before .before) .pre }
-
-same-length : tie.Need-same-length
-same-length c = search needs
-
-same-length-2 : tie.Need-same-length-2
-same-length-2 c = search needs
-
-same-length-3 : tie.Need-same-length-3
-same-length-3 c = search needs
-
-same-length-4 : tie.Need-same-length-4
-same-length-4 c = search needs
-
-same-length-5 : tie.Need-same-length-5
-same-length-5 c = search needs
 
 returns-2 : tie.Need-returns-2
 returns-2 c =
@@ -48,14 +24,8 @@ pub run-one-spec : {M : Type 1} → statement M
 run-one-spec =
     tie.close
     (tie.spec
-    decode-requires
-    enum-known-asked
-    enum-told
+    (λ c κs. search needs) (λ c. search needs) (λ c. search needs)
     returns
     dispatch-requires
-    same-length
-    same-length-2
-    same-length-3
-    same-length-4
-    same-length-5
+    (λ c. search needs) (λ c. search needs) (λ c. search needs) (λ c. search needs) (λ c. search needs)
     returns-2)

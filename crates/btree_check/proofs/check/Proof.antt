@@ -47,15 +47,9 @@ begun c like = begins _ _ _ _ (same (length-of (size-of c))) (sized (size-of c))
 returns : tie.Need-returns
 returns c = refuses-length _ _ _ _ (λ same. omega (arith, c .if1 .taken, same))
 
-is-page-size-requires : tie.Need-is-page-size-requires
-is-page-size-requires c κs = search needs
-
 returns-2 : tie.Need-returns-2
 returns-2 c =
     refuses-page-size _ _ _ _ (same (c .before .before)) (sym (c .before .is-page-size .ensures) ∙ not-true _ (c .if2 .taken))
-
-is-usable-requires : tie.Need-is-usable-requires
-is-usable-requires c κs = search needs
 
 returns-3 : tie.Need-returns-3
 returns-3 c =
@@ -78,18 +72,12 @@ returns-4 c =
 first-unlike-requires : tie.Need-first-unlike-requires
 first-unlike-requires c κs = omega (arith, enough (c .before))
 
-enum-known-unlike : tie.Need-enum-known-unlike
-enum-known-unlike c = search needs
-
 returns-5 : tie.Need-returns-5
 returns-5 c =
     let unlike = c .before .before .before in
     let usable = unlike .before .before in
     refuses-magic _ _ _ _ (same (length-of (size-of usable))) (sized (size-of usable)) (enough usable)
     (omega (arith, unlike .before .if4 .left)) (rw (c .before .unlike .given .1) at (unlike .first-unlike .ensures))
-
-enum-told : tie.Need-enum-told
-enum-told c = search needs
 
 check-tree-requires-2 : tie.Need-check-tree-requires-2
 check-tree-requires-2 c κs =
@@ -108,15 +96,15 @@ check-spec =
     tie.close
     (tie.spec
     returns
-    is-page-size-requires
+    (λ c κs. search needs)
     returns-2
-    is-usable-requires
+    (λ c κs. search needs)
     returns-3
     check-tree-requires
     returns-4
     first-unlike-requires
-    enum-known-unlike
+    (λ c. search needs)
     returns-5
-    enum-told
+    (λ c. search needs)
     check-tree-requires-2
     returns-6)

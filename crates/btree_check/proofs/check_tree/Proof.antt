@@ -59,32 +59,8 @@ counted c =
       counts = c .half-at .ensures .0;
     }
 
-usable-end-requires : tie.Need-usable-end-requires
-usable-end-requires c κs = search needs
-
-header-at-requires : tie.Need-header-at-requires
-header-at-requires c κs = search needs
-
-shared-slice-read-kind : tie.Need-shared-slice-read-kind
-shared-slice-read-kind c = search needs
-
-is-page-type-requires : tie.Need-is-page-type-requires
-is-page-type-requires c κs = search needs
-
 returns : tie.Need-returns
 returns c = refuses-kind (found (c .before .before .before)) (sym (c .before .is-page-type .ensures) ∙ not-true _ (c .if1 .taken))
-
-content-start-requires : tie.Need-content-start-requires
-content-start-requires c κs = search needs
-
-add-first-bad : tie.Need-add-first-bad
-add-first-bad c = search needs
-
-first-bad-requires : tie.Need-first-bad-requires
-first-bad-requires c κs = search needs
-
-enum-known-chain : tie.Need-enum-known-chain
-enum-known-chain c = search needs
 
 returns-2 : tie.Need-returns-2
 returns-2 c =
@@ -93,57 +69,18 @@ returns-2 c =
     refuses-chain (found (header-of type)) (typed type) (chain .before .content-start .ensures .0)
     (rw (c .before .chain .given .1) at (chain .first-bad .ensures))
 
-enum-told : tie.Need-enum-told
-enum-told c = search needs
-
-array-at-requires : tie.Need-array-at-requires
-array-at-requires c κs = search needs
-
-add-half-at : tie.Need-add-half-at
-add-half-at c = search needs
-
-half-at-requires : tie.Need-half-at-requires
-half-at-requires c κs = search needs
-
-mul-if2 : tie.Need-mul-if2
-mul-if2 c = search needs
-
-add-if2 : tie.Need-add-if2
-add-if2 c = search needs
-
-add-t22 : tie.Need-add-t22
-add-t22 c = search needs
-
 returns-3 : tie.Need-returns-3
 returns-3 c = refuses-count (counted (c .before)) (omega (arith, c .if2 .taken))
-
-add-t24 : tie.Need-add-t24
-add-t24 c = search needs
 
 returns-4 : tie.Need-returns-4
 returns-4 c =
     refuses-start (counted (count-of (c .before))) (omega (arith, c .before .if2 .left)) (omega (arith, c .if3 .taken))
-
-add-if4 : tie.Need-add-if4
-add-if4 c = search needs
-
-shared-slice-read-if4 : tie.Need-shared-slice-read-if4
-shared-slice-read-if4 c = search needs
-
-add-t27 : tie.Need-add-t27
-add-t27 c = search needs
 
 returns-5 : tie.Need-returns-5
 returns-5 c =
     let early = c .before .before in
     refuses-fragments (counted (count-of (fits-of early))) (omega (arith, fits-of early .if2 .left)) (omega (arith, early .if3 .left))
     (omega (arith, c .if4 .taken))
-
-first-outside-requires : tie.Need-first-outside-requires
-first-outside-requires c κs = search needs
-
-enum-known-outside : tie.Need-enum-known-outside
-enum-known-outside c = search needs
 
 mul-t29 : tie.Need-mul-t29
 mul-t29 c =
@@ -171,9 +108,6 @@ returns-6 c =
     refuses-pointer (counted (count-of fits)) (omega (arith, fits .if2 .left)) (omega (arith, early .if3 .left))
     (omega (arith, few .if4 .left)) (rw (c .before .outside .given .1) at (outside .first-outside .ensures))
 
-enum-told-2 : tie.Need-enum-told-2
-enum-told-2 c = search needs
-
 returns-7 : tie.Need-returns-7
 returns-7 c =
     let outside = c .before .before in
@@ -187,34 +121,20 @@ pub check-tree-spec : {M : Type 1} → statement M
 check-tree-spec =
     tie.close
     (tie.spec
-    usable-end-requires
-    header-at-requires
-    shared-slice-read-kind
-    is-page-type-requires
+    (λ c κs. search needs) (λ c κs. search needs) (λ c. search needs) (λ c κs. search needs)
     returns
-    content-start-requires
-    add-first-bad
-    first-bad-requires
-    enum-known-chain
+    (λ c κs. search needs) (λ c. search needs) (λ c κs. search needs) (λ c. search needs)
     returns-2
-    enum-told
-    array-at-requires
-    add-half-at
-    half-at-requires
-    mul-if2
-    add-if2
-    add-t22
+    (λ c. search needs) (λ c κs. search needs) (λ c. search needs) (λ c κs. search needs) (λ c. search needs) (λ c. search needs)
+    (λ c. search needs)
     returns-3
-    add-t24
+    (λ c. search needs)
     returns-4
-    add-if4
-    shared-slice-read-if4
-    add-t27
+    (λ c. search needs) (λ c. search needs) (λ c. search needs)
     returns-5
-    first-outside-requires
-    enum-known-outside
+    (λ c κs. search needs) (λ c. search needs)
     mul-t29
     add-t30
     returns-6
-    enum-told-2
+    (λ c. search needs)
     returns-7)

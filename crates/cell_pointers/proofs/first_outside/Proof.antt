@@ -23,17 +23,8 @@ read : (c : tie.After-half-at Inv-loop μ-loop)
     c .half-at .result ≡ half (args .image .now) (args .array + 2 * c .before .before .loop .i))
 read c = c .half-at .ensures .0 ∙ ap (half _) (c .before .before .loop .inv .1)
 
-sub-room : tie.Need-sub-room Inv-loop μ-loop
-sub-room c = search needs
-
 loop-holds : tie.Need-loop-holds Inv-loop μ-loop
 loop-holds c = (look-begins, omega arith)
-
-half-at-requires : tie.Need-half-at-requires Inv-loop μ-loop
-half-at-requires c κs = search needs
-
-wrapping-sub-usize-requires : tie.Need-wrapping-sub-usize-requires Inv-loop μ-loop
-wrapping-sub-usize-requires c κs = search needs
 
 returns : tie.Need-returns Inv-loop μ-loop
 returns c =
@@ -41,12 +32,6 @@ returns c =
     look-finds (pointer .before .before .loop .inv .0) (pointer .before .loop-test .taken)
     (wraps-outside (c .before .wrapping-sub-usize .ensures) (read pointer) (pointer .before .before .before .before .pre .1)
     (c .before .wrapping-sub-usize .ok) (omega (arith, c .if1 .taken)))
-
-add-at : tie.Need-add-at Inv-loop μ-loop
-add-at c = search needs
-
-add-i : tie.Need-add-i Inv-loop μ-loop
-add-i c = search needs
 
 loop-less : tie.Need-loop-less Inv-loop μ-loop
 loop-less c = search needs
@@ -69,13 +54,11 @@ first-outside-spec =
     (tie.spec
     Inv-loop
     μ-loop
-    sub-room
+    (λ c. search needs)
     loop-holds
-    half-at-requires
-    wrapping-sub-usize-requires
+    (λ c κs. search needs) (λ c κs. search needs)
     returns
-    add-at
-    add-i
+    (λ c. search needs) (λ c. search needs)
     loop-less
     loop-again
     returns-2)

@@ -27,9 +27,6 @@ sized c = record { large = omega (arith, c .before .if4 .left); within = omega (
 loop-holds : tie.Need-loop-holds Inv-loop μ-loop
 loop-holds c = walk-begins (c .before .pre)
 
-half-at-requires : tie.Need-half-at-requires Inv-loop μ-loop
-half-at-requires c κs = search needs
-
 returns : tie.Need-returns Inv-loop μ-loop
 returns c = walk-ends (c .before .before .loop .inv) (c .before .half-at .ensures .0) (c .if1 .taken)
 
@@ -39,23 +36,14 @@ returns-2 c =
     walk-strays (block .before .loop .inv) (block .half-at .ensures .0) (c .before .if1 .left)
     (λ placed. omega (arith, c .if2 .taken, placed .after))
 
-sub-if3 : tie.Need-sub-if3 Inv-loop μ-loop
-sub-if3 c = search needs
-
 returns-3 : tie.Need-returns-3 Inv-loop μ-loop
 returns-3 c =
     let block = c .before .before .before in
     walk-strays (block .before .loop .inv) (block .half-at .ensures .0) (c .before .before .if1 .left)
     (λ placed. omega (arith, c .if3 .taken, placed .room))
 
-add-half-at : tie.Need-add-half-at Inv-loop μ-loop
-add-half-at c = search needs
-
 half-at-requires-2 : tie.Need-half-at-requires-2 Inv-loop μ-loop
 half-at-requires-2 c κs = omega (arith, c .before .before .before .before .loop .inv .linked .whole, placed c .room)
-
-add-t11 : tie.Need-add-t11 Inv-loop μ-loop
-add-t11 c = search needs
 
 returns-4 : tie.Need-returns-4 Inv-loop μ-loop
 returns-4 c =
@@ -67,18 +55,12 @@ returns-4 c =
 sub-if5 : tie.Need-sub-if5 Inv-loop μ-loop
 sub-if5 c = omega (arith, placed (c .before .before) .room)
 
-add-t12 : tie.Need-add-t12 Inv-loop μ-loop
-add-t12 c = search needs
-
 returns-5 : tie.Need-returns-5 Inv-loop μ-loop
 returns-5 c =
     let in-place = c .before .before .before in
     let block = in-place .before .before .before in
     walk-missized (block .before .loop .inv) (block .half-at .ensures .0) (in-place .before .before .if1 .left) (placed in-place)
     (c .before .before .half-at2 .ensures .0) (λ sized. omega (arith, c .if5 .taken, sized .within))
-
-add-free : tie.Need-add-free Inv-loop μ-loop
-add-free c = search needs
 
 loop-less : tie.Need-loop-less Inv-loop μ-loop
 loop-less c =
@@ -101,18 +83,18 @@ first-bad-spec =
     Inv-loop
     μ-loop
     loop-holds
-    half-at-requires
+    (λ c κs. search needs)
     returns
     returns-2
-    sub-if3
+    (λ c. search needs)
     returns-3
-    add-half-at
+    (λ c. search needs)
     half-at-requires-2
-    add-t11
+    (λ c. search needs)
     returns-4
     sub-if5
-    add-t12
+    (λ c. search needs)
     returns-5
-    add-free
+    (λ c. search needs)
     loop-less
     loop-again)

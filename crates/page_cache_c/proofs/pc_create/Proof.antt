@@ -8,27 +8,6 @@ use Rattle.page_cache_c.proofs.pc_create.Tie as tie
 returns : tie.Need-returns
 returns c = unmade (c .if1 .taken) refl refl refl
 
-create-requires : tie.Need-create-requires
-create-requires c κs = search needs
-
-put-created-requires : tie.Need-put-created-requires
-put-created-requires c κs = search needs
-
-same-length : tie.Need-same-length
-same-length c = search needs
-
-same-length-2 : tie.Need-same-length-2
-same-length-2 c = search needs
-
-same-length-3 : tie.Need-same-length-3
-same-length-3 c = search needs
-
-same-length-4 : tie.Need-same-length-4
-same-length-4 c = search needs
-
-same-length-5 : tie.Need-same-length-5
-same-length-5 c = search needs
-
 returns-2 : tie.Need-returns-2
 returns-2 c =
     let created = c .before .before .before .before .before .before .before .before .before .before .before .before in
@@ -39,11 +18,6 @@ pc-create-spec =
     tie.close
     (tie.spec
     returns
-    create-requires
-    put-created-requires
-    same-length
-    same-length-2
-    same-length-3
-    same-length-4
-    same-length-5
+    (λ c κs. search needs) (λ c κs. search needs) (λ c. search needs) (λ c. search needs) (λ c. search needs) (λ c. search needs)
+    (λ c. search needs)
     returns-2)

@@ -9,18 +9,6 @@ use Rattle.page_cache_c.proofs.pc_list.Tie as tie
 returns : tie.Need-returns
 returns c = unlisted (c .if1 .taken) refl refl
 
-read-head-requires : tie.Need-read-head-requires
-read-head-requires c κs = search needs
-
-list-numbers-requires : tie.Need-list-numbers-requires
-list-numbers-requires c κs = search needs
-
-listing-code-requires : tie.Need-listing-code-requires
-listing-code-requires c κs = search needs
-
-same-length : tie.Need-same-length
-same-length c = search needs
-
 returns-2 : tie.Need-returns-2
 returns-2 c = lists-read (c .before .before .before .before .before .before .if1 .left) (c .before .before .before .before .before .read-head .ensures) (c .before .before .before .list-numbers .ensures) (c .listing-code .ensures)
 
@@ -29,8 +17,5 @@ pc-list-spec =
     tie.close
     (tie.spec
     returns
-    read-head-requires
-    list-numbers-requires
-    listing-code-requires
-    same-length
+    (λ c κs. search needs) (λ c κs. search needs) (λ c κs. search needs) (λ c. search needs)
     returns-2)

@@ -9,12 +9,6 @@ use Rattle.page_cache_c.proofs.pc_test.Tie as tie
 returns : tie.Need-returns
 returns c = untested (c .if1 .taken) refl
 
-read-head-requires : tie.Need-read-head-requires
-read-head-requires c κs = search needs
-
-is-sound-requires : tie.Need-is-sound-requires
-is-sound-requires c κs = search needs
-
 returns-2 : tie.Need-returns-2
 returns-2 c = tests-sound (c .before .before .before .if1 .left) (c .before .before .read-head .ensures) (c .before .is-sound .ensures .right (c .if2 .taken))
 
@@ -22,4 +16,4 @@ returns-3 : tie.Need-returns-3
 returns-3 c = tests-not-sound (c .before .before .before .if1 .left) (c .before .before .read-head .ensures) (c .before .is-sound .ensures) (c .if2 .left)
 
 pub pc-test-spec : {M : Type 1} → statement M
-pc-test-spec = tie.close (tie.spec returns read-head-requires is-sound-requires returns-2 returns-3)
+pc-test-spec = tie.close (tie.spec returns (λ c κs. search needs) (λ c κs. search needs) returns-2 returns-3)

@@ -9,20 +9,11 @@ Inv-loop states slots₀ by-key₀ by-handle₀ marks₀ list₀ out₀ head₀ 
 abbrev μ-loop : tie.MeasureT-loop
 μ-loop states slots₀ by-key₀ by-handle₀ marks₀ list₀ out₀ head₀ turns₀ slots by-key by-handle marks list out head turns = turns
 
-no-cache-requires : tie.Need-no-cache-requires Inv-loop μ-loop
-no-cache-requires c κs = search needs
-
 loop-holds : tie.Need-loop-holds Inv-loop μ-loop
 loop-holds c = search needs
 
-replay-requires : tie.Need-replay-requires Inv-loop μ-loop
-replay-requires c κs = search needs
-
 returns : tie.Need-returns Inv-loop μ-loop
 returns c = search needs
-
-sub-turns : tie.Need-sub-turns Inv-loop μ-loop
-sub-turns c = search needs
 
 loop-less : tie.Need-loop-less Inv-loop μ-loop
 loop-less c = search needs
@@ -39,11 +30,11 @@ replay-spec =
     (tie.spec
     Inv-loop
     μ-loop
-    no-cache-requires
+    (λ c κs. search needs)
     loop-holds
-    replay-requires
+    (λ c κs. search needs)
     returns
-    sub-turns
+    (λ c. search needs)
     loop-less
     loop-again
     returns-2)

@@ -7,12 +7,6 @@ use borrow.Author.Needs.{needs}
 use Rattle.btree_format.proofs.fields.content_start.Statement.{statement}
 use Rattle.btree_format.proofs.fields.content_start.Tie as tie
 
-add-half-at : tie.Need-add-half-at
-add-half-at c = search needs
-
-half-at-requires : tie.Need-half-at-requires
-half-at-requires c κs = search needs
-
 returns : tie.Need-returns
 unfolding startAt
 returns c = (rw (eq-eqb _ 0 (sym (c .before .half-at .ensures .0) ∙ c .if1 .taken)), omega arith)
@@ -25,4 +19,4 @@ returns-2 c = (
 )
 
 pub content-start-spec : {M : Type 1} → statement M
-content-start-spec = tie.close (tie.spec add-half-at half-at-requires returns returns-2)
+content-start-spec = tie.close (tie.spec (λ c. search needs) (λ c κs. search needs) returns returns-2)

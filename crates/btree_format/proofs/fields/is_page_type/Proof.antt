@@ -3,11 +3,8 @@ use borrow.Author.Needs.{needs}
 use Rattle.btree_format.proofs.fields.is_page_type.Statement.{statement}
 use Rattle.btree_format.proofs.fields.is_page_type.Tie as tie
 
-is-interior-requires : tie.Need-is-interior-requires
-is-interior-requires c κs = search needs
-
 returns : tie.Need-returns
 returns c = rw (c .is-interior .ensures)
 
 pub is-page-type-spec : {M : Type 1} → statement M
-is-page-type-spec = tie.close (tie.spec is-interior-requires returns)
+is-page-type-spec = tie.close (tie.spec (λ c κs. search needs) returns)

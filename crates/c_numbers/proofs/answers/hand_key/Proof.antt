@@ -7,9 +7,6 @@ use Rattle.c_numbers.proofs.answers.hand_key.Tie as tie
 returns : tie.Need-returns
 returns c = nothing-held (c .before .before .before .before .args .slots .now) (c .before .before .before .before .args .head) (c .if1 .taken)
 
-cast-if2 : tie.Need-cast-if2
-cast-if2 c = search needs
-
 returns-2 : tie.Need-returns-2
 returns-2 c =
     let held = c .before .before in
@@ -21,9 +18,6 @@ load-requires c κs =
     let start = c .before .before .before .before .before .before in
     quarter (start .args .slots .now) (start .args .head .hand .0) (c .if2 .left)
 
-cast-result : tie.Need-cast-result
-cast-result c = search needs
-
 returns-3 : tie.Need-returns-3
 returns-3 c =
     let slot = c .before .before .before in
@@ -32,4 +26,4 @@ returns-3 c =
     a-slot (start .args .slots .now) (start .args .head) (held .if1 .left) (slot .if2 .left) (c .before .before .load .ensures)
 
 pub hand-key-spec : {M : Type 1} → statement M
-hand-key-spec = tie.close (tie.spec returns cast-if2 returns-2 load-requires cast-result returns-3)
+hand-key-spec = tie.close (tie.spec returns (λ c. search needs) returns-2 load-requires (λ c. search needs) returns-3)

@@ -7,50 +7,11 @@ use Rattle.c_numbers.proofs.Numbers.{answer-stored}
 use Rattle.c_numbers.proofs.answers.put_answer.Statement.{statement}
 use Rattle.c_numbers.proofs.answers.put_answer.Tie as tie
 
-code-of-requires : tie.Need-code-of-requires
-code-of-requires c κs = search needs
-
-cast-answer : tie.Need-cast-answer
-cast-answer c = search needs
-
-slice-write-answer : tie.Need-slice-write-answer
-slice-write-answer c = search needs
-
-value-of-requires : tie.Need-value-of-requires
-value-of-requires c κs = search needs
-
-cast-answer-2 : tie.Need-cast-answer-2
-cast-answer-2 c = search needs
-
-slice-write-answer-2 : tie.Need-slice-write-answer-2
-slice-write-answer-2 c = search needs
-
-slice-write-answer-3 : tie.Need-slice-write-answer-3
-slice-write-answer-3 c = search needs
-
-cast-answer-3 : tie.Need-cast-answer-3
-cast-answer-3 c = search needs
-
-slice-write-answer-4 : tie.Need-slice-write-answer-4
-slice-write-answer-4 c = search needs
-
-hand-key-requires : tie.Need-hand-key-requires
-hand-key-requires c κs = search needs
-
 slice-write-answer-5 : tie.Need-slice-write-answer-5
 slice-write-answer-5 c = simp length-set (omega arith)
 
-cast-answer-4 : tie.Need-cast-answer-4
-cast-answer-4 c = search needs
-
 slice-write-answer-6 : tie.Need-slice-write-answer-6
 slice-write-answer-6 c = simp length-set (omega arith)
-
-cast-result : tie.Need-cast-result
-cast-result c = search needs
-
-same-length : tie.Need-same-length
-same-length c = search needs
 
 returns : tie.Need-returns
 returns c =
@@ -66,19 +27,10 @@ pub put-answer-spec : {M : Type 1} → statement M
 put-answer-spec =
     tie.close
     (tie.spec
-    code-of-requires
-    cast-answer
-    slice-write-answer
-    value-of-requires
-    cast-answer-2
-    slice-write-answer-2
-    slice-write-answer-3
-    cast-answer-3
-    slice-write-answer-4
-    hand-key-requires
+    (λ c κs. search needs) (λ c. search needs) (λ c. search needs) (λ c κs. search needs) (λ c. search needs) (λ c. search needs)
+    (λ c. search needs) (λ c. search needs) (λ c. search needs) (λ c κs. search needs)
     slice-write-answer-5
-    cast-answer-4
+    (λ c. search needs)
     slice-write-answer-6
-    cast-result
-    same-length
+    (λ c. search needs) (λ c. search needs)
     returns)

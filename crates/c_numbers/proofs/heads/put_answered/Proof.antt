@@ -9,18 +9,6 @@ use Rattle.c_numbers.proofs.heads.put_answered.Tie as tie
 abbrev start-of : tie.After-fit → tie.Start
 start-of c = c .before .before .before .before .before
 
-code-of-requires : tie.Need-code-of-requires
-code-of-requires c κs = search needs
-
-fit-requires : tie.Need-fit-requires
-fit-requires c κs = search needs
-
-put-head-requires : tie.Need-put-head-requires
-put-head-requires c κs = search needs
-
-same-length : tie.Need-same-length
-same-length c = search needs
-
 returns : tie.Need-returns
 returns c =
     let test = c .before .before .before .before in
@@ -29,9 +17,6 @@ returns c =
     let start = start-of fit in
     c .before .before .put-head .ensures
     ∙ written (start .args .head .now) (fit .fit .ensures) (start .args .answered) (told .code-of .ensures) (test .if1 .taken)
-
-same-length-2 : tie.Need-same-length-2
-same-length-2 c = search needs
 
 returns-2 : tie.Need-returns-2
 returns-2 c =
@@ -44,10 +29,7 @@ pub put-answered-spec : {M : Type 1} → statement M
 put-answered-spec =
     tie.close
     (tie.spec
-    code-of-requires
-    fit-requires
-    put-head-requires
-    same-length
+    (λ c κs. search needs) (λ c κs. search needs) (λ c κs. search needs) (λ c. search needs)
     returns
-    same-length-2
+    (λ c. search needs)
     returns-2)

@@ -12,19 +12,10 @@ use Rattle.caller_updates.proofs.notices.notify_page_spilled.Tie as tie
 takes-notice-requires : tie.Need-takes-notice-requires
 takes-notice-requires c κs = holds-by-key (c .before .before .pre .sound .holds)
 
-plain-requires : tie.Need-plain-requires
-plain-requires c κs = search needs
-
 returns : tie.Need-returns
 returns c = λ by-handle marks w H.
     follows-told (c .plain .ensures)
     (notice-missed H up _ (spilled-is _ w) (sym (c .before .before .takes-notice .ensures _ _ _ w H refl) ∙ not-true _ (c .before .if1 .taken)))
-
-count-up-requires : tie.Need-count-up-requires
-count-up-requires c κs = search needs
-
-plain-requires-2 : tie.Need-plain-requires-2
-plain-requires-2 c κs = search needs
 
 returns-2 : tie.Need-returns-2
 returns-2 c = λ by-handle marks w H.
@@ -37,8 +28,7 @@ notify-page-spilled-spec =
     tie.close
     (tie.spec
     takes-notice-requires
-    plain-requires
+    (λ c κs. search needs)
     returns
-    count-up-requires
-    plain-requires-2
+    (λ c κs. search needs) (λ c κs. search needs)
     returns-2)

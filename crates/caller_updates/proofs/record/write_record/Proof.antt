@@ -35,26 +35,11 @@ inside c = let H = start c .pre .sound .holds in slot-inside H (found c _ _ _ H 
 good : (c : tie.After-s) → start c .args .page .flags ≤ allFlags
 good c = c .before .before .before .before .if1 .left
 
-plain-requires : tie.Need-plain-requires
-plain-requires c κs = search needs
-
 returns : tie.Need-returns
 returns c = λ by-handle marks w H. follows-told (c .plain .ensures) (write-bad H _ _ (c .before .if1 .taken))
 
 seat-of-requires : tie.Need-seat-of-requires
 seat-of-requires c κs = holds-by-key (c .before .before .before .before .before .pre .sound .holds)
-
-enum-known-s : tie.Need-enum-known-s
-enum-known-s c = search needs
-
-enum-told : tie.Need-enum-told
-enum-told c = search needs
-
-plain-requires-2 : tie.Need-plain-requires-2
-plain-requires-2 c κs = search needs
-
-same-length : tie.Need-same-length
-same-length c = search needs
 
 returns-2 : tie.Need-returns-2
 returns-2 c = λ by-handle marks w H.
@@ -63,12 +48,6 @@ returns-2 c = λ by-handle marks w H.
 
 rewrite-at-requires : tie.Need-rewrite-at-requires
 rewrite-at-requires c κs = record { slot = inside (c .before .before); flags = good (c .before .before) }
-
-plain-requires-3 : tie.Need-plain-requires-3
-plain-requires-3 c κs = search needs
-
-same-length-2 : tie.Need-same-length-2
-same-length-2 c = search needs
 
 returns-3 : tie.Need-returns-3
 returns-3 c = λ by-handle marks w H.
@@ -80,15 +59,11 @@ pub write-record-spec : {M : Type 1} → statement M
 write-record-spec =
     tie.close
     (tie.spec
-    plain-requires
+    (λ c κs. search needs)
     returns
     seat-of-requires
-    enum-known-s
-    enum-told
-    plain-requires-2
-    same-length
+    (λ c. search needs) (λ c. search needs) (λ c κs. search needs) (λ c. search needs)
     returns-2
     rewrite-at-requires
-    plain-requires-3
-    same-length-2
+    (λ c κs. search needs) (λ c. search needs)
     returns-3)

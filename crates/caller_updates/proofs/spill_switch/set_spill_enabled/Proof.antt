@@ -8,12 +8,6 @@ use Rattle.caller_updates.proofs.Heads.{switch-follows}
 use Rattle.caller_updates.proofs.spill_switch.set_spill_enabled.Statement.{statement}
 use Rattle.caller_updates.proofs.spill_switch.set_spill_enabled.Tie as tie
 
-cast-switched : tie.Need-cast-switched
-cast-switched c = search needs
-
-plain-requires : tie.Need-plain-requires
-plain-requires c κs = search needs
-
 -- the byte of a Bool is what the head keeps
 switch-is : (on : Bool) → boolByte on ≡ cond on 1 0
 switch-is true = refl
@@ -23,4 +17,4 @@ returns : tie.Need-returns
 returns c = λ m w H. follows-told (c .plain .ensures) (switch-follows H _ (switch-is (c .before .args .on)))
 
 pub set-spill-enabled-spec : {M : Type 1} → statement M
-set-spill-enabled-spec = tie.close (tie.spec cast-switched plain-requires returns)
+set-spill-enabled-spec = tie.close (tie.spec (λ c. search needs) (λ c κs. search needs) returns)

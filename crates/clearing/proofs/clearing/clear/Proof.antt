@@ -20,12 +20,6 @@ long-of c = c .before .before .before
 abbrev start-of : tie.Else1 → tie.Start
 start-of c = c .before .before .before .before .before .before .before
 
-cast-if1 : tie.Need-cast-if1
-cast-if1 c = search needs
-
-plain-requires : tie.Need-plain-requires
-plain-requires c κs = search needs
-
 returns : tie.Need-returns
 returns c = λ w H. rw (c .plain .ensures) (comes-short (clear _ _) H refl (c .before .if1 .taken))
 
@@ -34,26 +28,11 @@ what-hinders-requires c κs =
     let start = start-of (c .before .before) in
     holds-by-key (start .pre .holds)
 
-enum-known-key : tie.Need-enum-known-key
-enum-known-key c = search needs
-
-plain-requires-2 : tie.Need-plain-requires-2
-plain-requires-2 c κs = search needs
-
-enum-told : tie.Need-enum-told
-enum-told c = search needs
-
 empty-requires : tie.Need-empty-requires
 empty-requires c κs =
     let long = long-of (c .before .before .before .before .before .before .before) in
     let start = start-of long in
     record { sound = start .pre; long = long .if1 .left }
-
-same-length : tie.Need-same-length
-same-length c = search needs
-
-same-length-2 : tie.Need-same-length-2
-same-length-2 c = search needs
 
 returns-2 : tie.Need-returns-2
 unfolding act
@@ -62,21 +41,6 @@ returns-2 c =
     let long = long-of hindrance in
     let start = start-of long in
     λ w H. rw (c .plain2 .ensures) (comes-acts (clear _ _) H refl (long .if1 .left) (clear-dirty (start .args .dirty-too) H _ (says-dirty _ _ (c .before .before .key .given .1) (hindrance .what-hinders .ensures))))
-
-same-length-3 : tie.Need-same-length-3
-same-length-3 c = search needs
-
-same-length-4 : tie.Need-same-length-4
-same-length-4 c = search needs
-
-same-length-5 : tie.Need-same-length-5
-same-length-5 c = search needs
-
-same-length-6 : tie.Need-same-length-6
-same-length-6 c = search needs
-
-same-length-7 : tie.Need-same-length-7
-same-length-7 c = search needs
 
 returns-3 : tie.Need-returns-3
 unfolding act
@@ -91,20 +55,12 @@ pub clear-spec : {M : Type 1} → statement M
 clear-spec =
     tie.close
     (tie.spec
-    cast-if1
-    plain-requires
+    (λ c. search needs) (λ c κs. search needs)
     returns
     what-hinders-requires
-    enum-known-key
-    plain-requires-2
-    enum-told
+    (λ c. search needs) (λ c κs. search needs) (λ c. search needs)
     empty-requires
-    same-length
-    same-length-2
+    (λ c. search needs) (λ c. search needs)
     returns-2
-    same-length-3
-    same-length-4
-    same-length-5
-    same-length-6
-    same-length-7
+    (λ c. search needs) (λ c. search needs) (λ c. search needs) (λ c. search needs) (λ c. search needs)
     returns-3)

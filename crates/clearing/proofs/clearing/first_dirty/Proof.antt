@@ -41,9 +41,6 @@ load-requires c κs =
     let start = start-of turn in
     index-slot Key (entries _) (start .pre) (turn .loop-test .taken)
 
-is-dirty-requires : tie.Need-is-dirty-requires Inv-loop μ-loop
-is-dirty-requires c κs = search needs
-
 returns : tie.Need-returns Inv-loop μ-loop
 returns c =
     let turn = c .before .before .before .before .before in
@@ -77,7 +74,7 @@ first-dirty-spec =
     mul-t8
     shared-slice-read-t10
     load-requires
-    is-dirty-requires
+    (λ c κs. search needs)
     returns
     add-i
     loop-less

@@ -9,47 +9,11 @@ use Rattle.creating.proofs.Created.{created-well}
 use Rattle.creating.proofs.creating.create.Statement.{statement}
 use Rattle.creating.proofs.creating.create.Tie as tie
 
-lengths-agree-requires : tie.Need-lengths-agree-requires
-lengths-agree-requires c κs = search needs
-
-same-length : tie.Need-same-length
-same-length c = search needs
-
-same-length-2 : tie.Need-same-length-2
-same-length-2 c = search needs
-
-same-length-3 : tie.Need-same-length-3
-same-length-3 c = search needs
-
-same-length-4 : tie.Need-same-length-4
-same-length-4 c = search needs
-
 returns : tie.Need-returns
 returns c = bad-lengths (record { lengths = fails (c .before .lengths-agree .ensures) (c .if1 .taken); memory = refl })
 
-same-length-5 : tie.Need-same-length-5
-same-length-5 c = search needs
-
-same-length-6 : tie.Need-same-length-6
-same-length-6 c = search needs
-
-same-length-7 : tie.Need-same-length-7
-same-length-7 c = search needs
-
-same-length-8 : tie.Need-same-length-8
-same-length-8 c = search needs
-
 returns-2 : tie.Need-returns-2
 returns-2 c = too-large (record { lengths = passes (c .before .before .lengths-agree .ensures) (c .before .if1 .left); above = c .if2 .taken; memory = refl })
-
-fill-words-requires : tie.Need-fill-words-requires
-fill-words-requires c κs = search needs
-
-clear-places-requires : tie.Need-clear-places-requires
-clear-places-requires c κs = search needs
-
-clear-places-requires-2 : tie.Need-clear-places-requires-2
-clear-places-requires-2 c κs = search needs
 
 mark-all-free-requires : tie.Need-mark-all-free-requires
 mark-all-free-requires c κs =
@@ -69,21 +33,6 @@ cast-new c =
     let capacity = slots .before .before in
     let lengths = capacity .before in
     omega (arith, passes (lengths .before .lengths-agree .ensures) (lengths .if1 .left) .most, capacity .if2 .left)
-
-new-requires : tie.Need-new-requires
-new-requires c κs = search needs
-
-same-length-9 : tie.Need-same-length-9
-same-length-9 c = search needs
-
-same-length-10 : tie.Need-same-length-10
-same-length-10 c = search needs
-
-same-length-11 : tie.Need-same-length-11
-same-length-11 c = search needs
-
-same-length-12 : tie.Need-same-length-12
-same-length-12 c = search needs
 
 returns-3 : tie.Need-returns-3
 returns-3 c =
@@ -106,25 +55,12 @@ pub create-spec : {M : Type 1} → statement M
 create-spec =
     tie.close
     (tie.spec
-    lengths-agree-requires
-    same-length
-    same-length-2
-    same-length-3
-    same-length-4
+    (λ c κs. search needs) (λ c. search needs) (λ c. search needs) (λ c. search needs) (λ c. search needs)
     returns
-    same-length-5
-    same-length-6
-    same-length-7
-    same-length-8
+    (λ c. search needs) (λ c. search needs) (λ c. search needs) (λ c. search needs)
     returns-2
-    fill-words-requires
-    clear-places-requires
-    clear-places-requires-2
+    (λ c κs. search needs) (λ c κs. search needs) (λ c κs. search needs)
     mark-all-free-requires
     cast-new
-    new-requires
-    same-length-9
-    same-length-10
-    same-length-11
-    same-length-12
+    (λ c κs. search needs) (λ c. search needs) (λ c. search needs) (λ c. search needs) (λ c. search needs)
     returns-3)

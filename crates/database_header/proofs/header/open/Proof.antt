@@ -23,39 +23,15 @@ sized c =
 returns : tie.Need-returns
 returns c = search needs
 
-first-unlike-requires : tie.Need-first-unlike-requires
-first-unlike-requires c κs = search needs
-
-enum-known-unlike : tie.Need-enum-known-unlike
-enum-known-unlike c = search needs
-
 returns-2 : tie.Need-returns-2
 returns-2 c =
     let at-unlike = c .before .before .before in
     unlike _ (at-unlike .before .if1 .left) (at-unlike .first-unlike .ensures) (c .before .unlike .given .1)
 
-enum-told : tie.Need-enum-told
-enum-told c = search needs
-
-page-size-of-requires : tie.Need-page-size-of-requires
-page-size-of-requires c κs = search needs
-
-is-page-size-requires : tie.Need-is-page-size-requires
-is-page-size-requires c κs = search needs
-
 returns-3 : tie.Need-returns-3
 returns-3 c =
     no-size _ (c .before .before .page-size-of .ensures) (c .before .is-page-size .ensures) (known (c .before .before .before))
     (c .if2 .taken)
-
-shared-slice-read-reserved : tie.Need-shared-slice-read-reserved
-shared-slice-read-reserved c = search needs
-
-cast-is-usable : tie.Need-cast-is-usable
-cast-is-usable c = search needs
-
-is-usable-requires : tie.Need-is-usable-requires
-is-usable-requires c κs = search needs
 
 returns-4 : tie.Need-returns-4
 returns-4 c =
@@ -79,15 +55,10 @@ open-spec =
     tie.close
     (tie.spec
     returns
-    first-unlike-requires
-    enum-known-unlike
+    (λ c κs. search needs) (λ c. search needs)
     returns-2
-    enum-told
-    page-size-of-requires
-    is-page-size-requires
+    (λ c. search needs) (λ c κs. search needs) (λ c κs. search needs)
     returns-3
-    shared-slice-read-reserved
-    cast-is-usable
-    is-usable-requires
+    (λ c. search needs) (λ c. search needs) (λ c κs. search needs)
     returns-4
     returns-5)

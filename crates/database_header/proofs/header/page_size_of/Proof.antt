@@ -6,12 +6,6 @@ use Rattle.database_header.specs.Header.{pageSize}
 use Rattle.database_header.proofs.header.page_size_of.Statement.{statement}
 use Rattle.database_header.proofs.header.page_size_of.Tie as tie
 
-half-at-requires : tie.Need-half-at-requires
-half-at-requires c κs = search needs
-
-cast-result : tie.Need-cast-result
-cast-result c = search needs
-
 returns : tie.Need-returns
 unfolding pageSize
 returns c = rw (eq-eqb _ 1 (sym (c .before .half-at .ensures .0) ∙ c .if1 .taken))
@@ -22,4 +16,4 @@ returns-2 c =
     rw (ne-eqb _ 1 (λ one. c .if1 .left (c .before .half-at .ensures .0 ∙ one))) (c .before .half-at .ensures .0)
 
 pub page-size-of-spec : {M : Type 1} → statement M
-page-size-of-spec = tie.close (tie.spec half-at-requires cast-result returns returns-2)
+page-size-of-spec = tie.close (tie.spec (λ c κs. search needs) (λ c. search needs) returns returns-2)

@@ -22,18 +22,6 @@ load-requires c κs =
     let start = c .before .before .before .before .before .before in
     slot-inside (start .pre .removable .holds) (start .pre .removable .stands)
 
-deletable-requires : tie.Need-deletable-requires
-deletable-requires c κs = search needs
-
-enum-told : tie.Need-enum-told
-enum-told c = search needs
-
-refusal-requires : tie.Need-refusal-requires
-refusal-requires c κs = search needs
-
-same-length : tie.Need-same-length
-same-length c = search needs
-
 returns : tie.Need-returns
 returns c = λ w key e H at.
     let asked = c .before .before in
@@ -50,21 +38,6 @@ slice-write-list c = start-of c .pre .within
 remove-at-slot-requires : tie.Need-remove-at-slot-requires
 remove-at-slot-requires c κs = start-of (c .before .before .before .before) .pre .removable
 
-same-length-2 : tie.Need-same-length-2
-same-length-2 c = search needs
-
-same-length-3 : tie.Need-same-length-3
-same-length-3 c = search needs
-
-same-length-4 : tie.Need-same-length-4
-same-length-4 c = search needs
-
-same-length-5 : tie.Need-same-length-5
-same-length-5 c = search needs
-
-same-length-6 : tie.Need-same-length-6
-same-length-6 c = search needs
-
 returns-2 : tie.Need-returns-2
 returns-2 c = λ w key e H at.
     let removed = c .before .before .before .before .before .before .before .before in
@@ -77,17 +50,10 @@ delete-page-spec =
     tie.close
     (tie.spec
     load-requires
-    deletable-requires
-    enum-told
-    refusal-requires
-    same-length
+    (λ c κs. search needs) (λ c. search needs) (λ c κs. search needs) (λ c. search needs)
     returns
     mul-list
     slice-write-list
     remove-at-slot-requires
-    same-length-2
-    same-length-3
-    same-length-4
-    same-length-5
-    same-length-6
+    (λ c. search needs) (λ c. search needs) (λ c. search needs) (λ c. search needs) (λ c. search needs)
     returns-2)

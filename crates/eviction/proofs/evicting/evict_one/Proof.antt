@@ -32,9 +32,6 @@ sweep-requires c κs =
     let pre = c .before .before .before .before .before .before .pre in
     sweepable (pre .sound .holds) (pre .some-held)
 
-same-length : tie.Need-same-length
-same-length c = search needs
-
 returns : tie.Need-returns
 returns c = λ w H. full-refuses H (ended (c .before .before .before .before)) (not-true _ (c .if1 .taken))
 
@@ -47,18 +44,6 @@ remove-at-slot-requires : tie.Need-remove-at-slot-requires
 remove-at-slot-requires c κs =
     let swept = sweep-of (at-of (c .before .before .before .before .before)) in
     end-removable (start swept .pre .sound .holds) (ended swept)
-
-same-length-2 : tie.Need-same-length-2
-same-length-2 c = search needs
-
-same-length-3 : tie.Need-same-length-3
-same-length-3 c = search needs
-
-same-length-4 : tie.Need-same-length-4
-same-length-4 c = search needs
-
-same-length-5 : tie.Need-same-length-5
-same-length-5 c = search needs
 
 returns-2 : tie.Need-returns-2
 returns-2 c = λ w H.
@@ -73,12 +58,9 @@ evict-one-spec =
     tie.close
     (tie.spec
     sweep-requires
-    same-length
+    (λ c. search needs)
     returns
     load-requires
     remove-at-slot-requires
-    same-length-2
-    same-length-3
-    same-length-4
-    same-length-5
+    (λ c. search needs) (λ c. search needs) (λ c. search needs) (λ c. search needs)
     returns-2)

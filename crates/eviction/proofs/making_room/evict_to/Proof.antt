@@ -45,9 +45,6 @@ evict-one-requires c κs =
     let turn = c .before .before .before .before in
     evict-loop-occupied (loop-of turn .loop .inv) (turn .if1 .taken)
 
-enum-known-swept : tie.Need-enum-known-swept Inv-loop μ-loop
-enum-known-swept c = search needs
-
 add-sum : tie.Need-add-sum Inv-loop μ-loop
 add-sum c =
     let eviction = eviction-full c in
@@ -79,9 +76,6 @@ returns c =
     let turn = turn-of eviction in
     evict-loop-full (loop-of turn .loop .inv) (turn .if1 .taken)
     (λ w H. says-full _ _ _ _ (c .before .swept .given .1) (eviction .evict-one .ensures w H))
-
-enum-known-handle : tie.Need-enum-known-handle Inv-loop μ-loop
-enum-known-handle c = search needs
 
 mul-list : tie.Need-mul-list Inv-loop μ-loop
 mul-list c =
@@ -153,7 +147,7 @@ evict-to-spec =
     μ-loop
     loop-holds
     evict-one-requires
-    enum-known-swept
+    (λ c. search needs)
     add-sum
     same-length
     same-length-2
@@ -161,7 +155,7 @@ evict-to-spec =
     same-length-4
     same-length-5
     returns
-    enum-known-handle
+    (λ c. search needs)
     mul-list
     slice-write-list
     add-count

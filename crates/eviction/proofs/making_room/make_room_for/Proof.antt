@@ -11,27 +11,6 @@ test-of c = c .before .before .before .before .before .before .before
 returns : tie.Need-returns
 returns c = λ w H. made-none H (c .if1 .taken)
 
-sub-evict-to : tie.Need-sub-evict-to
-sub-evict-to c = search needs
-
-evict-to-requires : tie.Need-evict-to-requires
-evict-to-requires c κs = search needs
-
-same-length : tie.Need-same-length
-same-length c = search needs
-
-same-length-2 : tie.Need-same-length-2
-same-length-2 c = search needs
-
-same-length-3 : tie.Need-same-length-3
-same-length-3 c = search needs
-
-same-length-4 : tie.Need-same-length-4
-same-length-4 c = search needs
-
-same-length-5 : tie.Need-same-length-5
-same-length-5 c = search needs
-
 returns-2 : tie.Need-returns-2
 returns-2 c = λ w H.
     let made = c .before .before .before .before .before .before .before .before .before .before in
@@ -42,11 +21,6 @@ make-room-for-spec =
     tie.close
     (tie.spec
     returns
-    sub-evict-to
-    evict-to-requires
-    same-length
-    same-length-2
-    same-length-3
-    same-length-4
-    same-length-5
+    (λ c. search needs) (λ c κs. search needs) (λ c. search needs) (λ c. search needs) (λ c. search needs) (λ c. search needs)
+    (λ c. search needs)
     returns-2)

@@ -8,37 +8,16 @@ use Rattle.eviction.proofs.sweeping.look_at.Tie as tie
 abbrev load-of : tie.After-evictable → tie.After-load
 load-of c = c .before .before
 
-load-requires : tie.Need-load-requires
-load-requires c κs = search needs
-
-evictable-requires : tie.Need-evictable-requires
-evictable-requires c κs = search needs
-
-same-length : tie.Need-same-length
-same-length c = search needs
-
 returns : tie.Need-returns
 returns c =
     let tested = c .before in
     stays-passed (load-of tested .load .ensures) (tested .evictable .ensures) (not-true _ (c .if1 .taken))
-
-same-length-2 : tie.Need-same-length-2
-same-length-2 c = search needs
 
 returns-2 : tie.Need-returns-2
 returns-2 c =
     let may-go = c .before .before in
     let tested = may-go .before in
     spent-taken (load-of tested .load .ensures) (tested .evictable .ensures) (not-false _ (may-go .if1 .left)) (c .if2 .taken)
-
-decrement-ref-requires : tie.Need-decrement-ref-requires
-decrement-ref-requires c κs = search needs
-
-store-requires : tie.Need-store-requires
-store-requires c κs = search needs
-
-same-length-3 : tie.Need-same-length-3
-same-length-3 c = search needs
 
 returns-3 : tie.Need-returns-3
 returns-3 c =
@@ -54,13 +33,9 @@ pub look-at-spec : {M : Type 1} → statement M
 look-at-spec =
     tie.close
     (tie.spec
-    load-requires
-    evictable-requires
-    same-length
+    (λ c κs. search needs) (λ c κs. search needs) (λ c. search needs)
     returns
-    same-length-2
+    (λ c. search needs)
     returns-2
-    decrement-ref-requires
-    store-requires
-    same-length-3
+    (λ c κs. search needs) (λ c κs. search needs) (λ c. search needs)
     returns-3)

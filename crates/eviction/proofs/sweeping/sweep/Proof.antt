@@ -26,12 +26,6 @@ loop-holds c = going-start
 look-at-requires : tie.Need-look-at-requires Inv-loop μ-loop
 look-at-requires c κs = going-inside (c .before .before .loop .inv) (c .before .before .before .before .pre)
 
-enum-known-next : tie.Need-enum-known-next Inv-loop μ-loop
-enum-known-next c = search needs
-
-enum-told : tie.Need-enum-told Inv-loop μ-loop
-enum-told c = search needs
-
 same-length : tie.Need-same-length Inv-loop μ-loop
 same-length c =
     let looked = c .before .before .before .before in
@@ -68,8 +62,7 @@ sweep-spec =
     mul-limit
     loop-holds
     look-at-requires
-    enum-known-next
-    enum-told
+    (λ c. search needs) (λ c. search needs)
     same-length
     returns
     add-passed

@@ -4,30 +4,6 @@ use borrow.Author.Needs.{needs}
 use Rattle.free_marks.proofs.marks.mark_held.Statement.{statement}
 use Rattle.free_marks.proofs.marks.mark_held.Tie as tie
 
-cast-w : tie.Need-cast-w
-cast-w c = search needs
-
-mul-word : tie.Need-mul-word
-mul-word c = search needs
-
-slice-read-word : tie.Need-slice-read-word
-slice-read-word c = search needs
-
-cast-marks : tie.Need-cast-marks
-cast-marks c = search needs
-
-shl-marks : tie.Need-shl-marks
-shl-marks c = search needs
-
-mul-marks : tie.Need-mul-marks
-mul-marks c = search needs
-
-slice-write-marks : tie.Need-slice-write-marks
-slice-write-marks c = search needs
-
-same-length : tie.Need-same-length
-same-length c = search needs
-
 returns : tie.Need-returns
 returns c = marked-held (c .before .before .before .args .marks .now) (c .before .before .before .args .s .0) (c .before .before .before .pre)
 
@@ -35,12 +11,6 @@ pub mark-held-spec : {M : Type 1} → statement M
 mark-held-spec =
     tie.close
     (tie.spec
-    cast-w
-    mul-word
-    slice-read-word
-    cast-marks
-    shl-marks
-    mul-marks
-    slice-write-marks
-    same-length
+    (λ c. search needs) (λ c. search needs) (λ c. search needs) (λ c. search needs) (λ c. search needs) (λ c. search needs)
+    (λ c. search needs) (λ c. search needs)
     returns)

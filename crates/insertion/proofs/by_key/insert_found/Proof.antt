@@ -15,28 +15,10 @@ loaded c = c .before .before
 load-requires : tie.Need-load-requires
 load-requires c κs = found-inside (c .before .before .before .before .before .before .pre)
 
-is-stale-requires : tie.Need-is-stale-requires
-is-stale-requires c κs = search needs
-
 insert-stale-requires : tie.Need-insert-stale-requires
 insert-stale-requires c κs =
     let tested = c .before .before .before .before .before .before in
     start-of (loaded tested) .pre
-
-same-length : tie.Need-same-length
-same-length c = search needs
-
-same-length-2 : tie.Need-same-length-2
-same-length-2 c = search needs
-
-same-length-3 : tie.Need-same-length-3
-same-length-3 c = search needs
-
-same-length-4 : tie.Need-same-length-4
-same-length-4 c = search needs
-
-same-length-5 : tie.Need-same-length-5
-same-length-5 c = search needs
 
 returns : tie.Need-returns
 returns c =
@@ -50,12 +32,6 @@ present-requires c κs =
     let tested = c .before .before .before in
     found-replaceable (start-of (loaded tested) .pre)
 
-same-length-6 : tie.Need-same-length-6
-same-length-6 c = search needs
-
-same-length-7 : tie.Need-same-length-7
-same-length-7 c = search needs
-
 returns-2 : tie.Need-returns-2
 returns-2 c =
     let at-present = c .before .before .before .before in
@@ -68,15 +44,10 @@ insert-found-spec =
     tie.close
     (tie.spec
     load-requires
-    is-stale-requires
+    (λ c κs. search needs)
     insert-stale-requires
-    same-length
-    same-length-2
-    same-length-3
-    same-length-4
-    same-length-5
+    (λ c. search needs) (λ c. search needs) (λ c. search needs) (λ c. search needs) (λ c. search needs)
     returns
     present-requires
-    same-length-6
-    same-length-7
+    (λ c. search needs) (λ c. search needs)
     returns-2)

@@ -12,9 +12,6 @@ start-of c = c .before .before .before .before .before .before
 load-requires : tie.Need-load-requires
 load-requires c κs = present-inside (c .before .before .before .pre)
 
-replaces-requires : tie.Need-replaces-requires
-replaces-requires c κs = search needs
-
 touch-at-requires : tie.Need-touch-at-requires
 touch-at-requires c κs = present-inside (start-of (c .before .before) .pre)
 
@@ -22,15 +19,6 @@ replace-at-requires : tie.Need-replace-at-requires
 replace-at-requires c κs =
     let at-touch-at = c .before .before .before .before in
     touched-replaceable (start-of (at-touch-at .before .before .before) .pre) (at-touch-at .touch-at .ensures)
-
-plain-requires : tie.Need-plain-requires
-plain-requires c κs = search needs
-
-same-length : tie.Need-same-length
-same-length c = search needs
-
-same-length-2 : tie.Need-same-length-2
-same-length-2 c = search needs
 
 returns : tie.Need-returns
 returns c =
@@ -40,12 +28,6 @@ returns c =
     let at-replaces = at-if1 .before in
     let at-load = at-replaces .before .before in
     rw (c .plain .ensures) (presents-replaced (at-load .load .ensures) (sym (at-replaces .replaces .ensures) ∙ at-if1 .if1 .taken) (at-touch-at .touch-at .ensures) (at-replace-at .replace-at .ensures))
-
-plain-requires-2 : tie.Need-plain-requires-2
-plain-requires-2 c κs = search needs
-
-same-length-3 : tie.Need-same-length-3
-same-length-3 c = search needs
 
 returns-2 : tie.Need-returns-2
 returns-2 c =
@@ -57,12 +39,6 @@ returns-2 c =
 
 touch-at-requires-2 : tie.Need-touch-at-requires-2
 touch-at-requires-2 c κs = present-inside (start-of (c .before .before .before .before .before) .pre)
-
-plain-requires-3 : tie.Need-plain-requires-3
-plain-requires-3 c κs = search needs
-
-same-length-4 : tie.Need-same-length-4
-same-length-4 c = search needs
 
 returns-3 : tie.Need-returns-3
 returns-3 c =
@@ -78,17 +54,13 @@ present-spec =
     tie.close
     (tie.spec
     load-requires
-    replaces-requires
+    (λ c κs. search needs)
     touch-at-requires
     replace-at-requires
-    plain-requires
-    same-length
-    same-length-2
+    (λ c κs. search needs) (λ c. search needs) (λ c. search needs)
     returns
-    plain-requires-2
-    same-length-3
+    (λ c κs. search needs) (λ c. search needs)
     returns-2
     touch-at-requires-2
-    plain-requires-3
-    same-length-4
+    (λ c κs. search needs) (λ c. search needs)
     returns-3)

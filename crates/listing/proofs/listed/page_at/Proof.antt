@@ -3,11 +3,8 @@ use borrow.Author.Needs.{needs}
 use Rattle.listing.proofs.listed.page_at.Statement.{statement}
 use Rattle.listing.proofs.listed.page_at.Tie as tie
 
-load-requires : tie.Need-load-requires
-load-requires c κs = search needs
-
 returns : tie.Need-returns
 returns c = rw (c .before .before .before .before .load .ensures)
 
 pub page-at-spec : {M : Type 1} → statement M
-page-at-spec = tie.close (tie.spec load-requires returns)
+page-at-spec = tie.close (tie.spec (λ c κs. search needs) returns)

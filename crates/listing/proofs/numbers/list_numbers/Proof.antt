@@ -8,16 +8,10 @@ use Rattle.listing.proofs.numbers.list_numbers.Tie as tie
 abbrev start-of : tie.After-admit → tie.Start
 start-of c = c .before .before .before .before .before .before
 
-admit-requires : tie.Need-admit-requires
-admit-requires c κs = search needs
-
 list-pool-requires : tie.Need-list-pool-requires
 list-pool-requires c κs =
     let admit = c .before in
     admitted (numbers-fit (start-of admit .args .list .now)) (admit .admit .ensures)
-
-same-length : tie.Need-same-length
-same-length c = search needs
 
 returns : tie.Need-returns
 returns c =
@@ -25,4 +19,4 @@ returns c =
     comes (numbers-fit (start-of admit .args .list .now)) (admit .admit .ensures) (c .before .before .list-pool .ensures)
 
 pub list-numbers-spec : {M : Type 1} → statement M
-list-numbers-spec = tie.close (tie.spec admit-requires list-pool-requires same-length returns)
+list-numbers-spec = tie.close (tie.spec (λ c κs. search needs) list-pool-requires (λ c. search needs) returns)

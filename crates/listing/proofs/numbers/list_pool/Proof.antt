@@ -17,23 +17,11 @@ loop-holds c = filling-none (c .before .before .pre .row) (c .before .before .pr
 page-at-requires : tie.Need-page-at-requires Inv-loop μ-loop
 page-at-requires c κs = filling-inside (c .before .loop .inv) (search needs)
 
-mul-put-page : tie.Need-mul-put-page Inv-loop μ-loop
-mul-put-page c = search needs
-
-put-page-requires : tie.Need-put-page-requires Inv-loop μ-loop
-put-page-requires c κs = search needs
-
-add-i : tie.Need-add-i Inv-loop μ-loop
-add-i c = search needs
-
 loop-less : tie.Need-loop-less Inv-loop μ-loop
 loop-less c = search needs
 
 loop-again : tie.Need-loop-again Inv-loop μ-loop
 loop-again c = numbering-more (c .before .before .before .before .before .before .before .before .loop .inv) (search needs) (c .before .before .before .before .before .before .page-at .ensures) (c .before .before .before .put-page .ensures)
-
-same-length : tie.Need-same-length Inv-loop μ-loop
-same-length c = search needs
 
 returns : tie.Need-returns Inv-loop μ-loop
 returns c = numbering-done (c .before .loop .inv) (search needs) (search needs)
@@ -46,10 +34,8 @@ list-pool-spec =
     μ-loop
     loop-holds
     page-at-requires
-    mul-put-page
-    put-page-requires
-    add-i
+    (λ c. search needs) (λ c κs. search needs) (λ c. search needs)
     loop-less
     loop-again
-    same-length
+    (λ c. search needs)
     returns)

@@ -28,32 +28,11 @@ found c w H = rw (c .s .given .1) at (c .before .before .seat-of .ensures .seat 
 long : (c : tie.After-s) → start c .args .head .held ≤ length (now (start c .args .list))
 long c = c .before .before .before .before .before .if1 .left
 
-cast-if1 : tie.Need-cast-if1
-cast-if1 c = search needs
-
-plain-requires : tie.Need-plain-requires
-plain-requires c κs = search needs
-
 returns : tie.Need-returns
 returns c = λ w H. comes-told (c .plain .ensures) (lookup-short H _ (c .before .if1 .taken))
 
 seat-of-requires : tie.Need-seat-of-requires
 seat-of-requires c κs = holds-by-key (c .before .before .before .before .before .before .before .before .before .pre .holds)
-
-enum-known-s : tie.Need-enum-known-s
-enum-known-s c = search needs
-
-enum-told : tie.Need-enum-told
-enum-told c = search needs
-
-plain-requires-2 : tie.Need-plain-requires-2
-plain-requires-2 c κs = search needs
-
-same-length : tie.Need-same-length
-same-length c = search needs
-
-same-length-2 : tie.Need-same-length-2
-same-length-2 c = search needs
 
 returns-2 : tie.Need-returns-2
 returns-2 c = λ w H.
@@ -66,29 +45,11 @@ load-requires c κs =
     let H = start seat .pre .holds in
     slot-inside H (found seat _ H .stands)
 
-is-stale-requires : tie.Need-is-stale-requires
-is-stale-requires c κs = search needs
-
 delete-at-requires : tie.Need-delete-at-requires
 delete-at-requires c κs =
     let seat = c .before .before .before .before .before .before .before .before .before .before in
     let H = start seat .pre .holds in
     can-delete H (found seat _ H) (long seat)
-
-same-length-3 : tie.Need-same-length-3
-same-length-3 c = search needs
-
-same-length-4 : tie.Need-same-length-4
-same-length-4 c = search needs
-
-same-length-5 : tie.Need-same-length-5
-same-length-5 c = search needs
-
-same-length-6 : tie.Need-same-length-6
-same-length-6 c = search needs
-
-same-length-7 : tie.Need-same-length-7
-same-length-7 c = search needs
 
 returns-3 : tie.Need-returns-3
 returns-3 c = λ w H.
@@ -104,15 +65,6 @@ touch-at-requires c κs =
     let H = start seat .pre .holds in
     slot-inside H (found seat _ H .stands)
 
-plain-requires-3 : tie.Need-plain-requires-3
-plain-requires-3 c κs = search needs
-
-same-length-8 : tie.Need-same-length-8
-same-length-8 c = search needs
-
-same-length-9 : tie.Need-same-length-9
-same-length-9 c = search needs
-
 returns-4 : tie.Need-returns-4
 returns-4 c = λ w H.
     let touched = c .before .before .before in
@@ -126,27 +78,16 @@ pub get-spec : {M : Type 1} → statement M
 get-spec =
     tie.close
     (tie.spec
-    cast-if1
-    plain-requires
+    (λ c. search needs) (λ c κs. search needs)
     returns
     seat-of-requires
-    enum-known-s
-    enum-told
-    plain-requires-2
-    same-length
-    same-length-2
+    (λ c. search needs) (λ c. search needs) (λ c κs. search needs) (λ c. search needs) (λ c. search needs)
     returns-2
     load-requires
-    is-stale-requires
+    (λ c κs. search needs)
     delete-at-requires
-    same-length-3
-    same-length-4
-    same-length-5
-    same-length-6
-    same-length-7
+    (λ c. search needs) (λ c. search needs) (λ c. search needs) (λ c. search needs) (λ c. search needs)
     returns-3
     touch-at-requires
-    plain-requires-3
-    same-length-8
-    same-length-9
+    (λ c κs. search needs) (λ c. search needs) (λ c. search needs)
     returns-4)

@@ -35,30 +35,12 @@ inside c = let H = start c .pre .sound .holds in slot-inside H (found c _ _ _ H 
 seat-of-requires : tie.Need-seat-of-requires
 seat-of-requires c κs = holds-by-key (c .before .before .before .pre .sound .holds)
 
-enum-known-at : tie.Need-enum-known-at
-enum-known-at c = search needs
-
-enum-told : tie.Need-enum-told
-enum-told c = search needs
-
-plain-requires : tie.Need-plain-requires
-plain-requires c κs = search needs
-
-same-length : tie.Need-same-length
-same-length c = search needs
-
 returns : tie.Need-returns
 returns c = λ by-handle marks w H.
     follows-told (c .plain .ensures) (peek-absent H _ _ (rw (c .before .enum-told .given .1) at (c .before .before .before .seat-of .ensures .seat _ _ _ w H refl)))
 
 load-requires : tie.Need-load-requires
 load-requires c κs = inside (c .before .before)
-
-plain-requires-2 : tie.Need-plain-requires-2
-plain-requires-2 c κs = search needs
-
-same-length-2 : tie.Need-same-length-2
-same-length-2 c = search needs
 
 returns-2 : tie.Need-returns-2
 returns-2 c = λ by-handle marks w H.
@@ -68,9 +50,6 @@ returns-2 c = λ by-handle marks w H.
 
 touch-at-requires : tie.Need-touch-at-requires
 touch-at-requires c κs = inside (c .before .before .before .before .before .before)
-
-same-length-3 : tie.Need-same-length-3
-same-length-3 c = search needs
 
 returns-3 : tie.Need-returns-3
 returns-3 c = λ by-handle marks w H.
@@ -84,15 +63,11 @@ peek-spec =
     tie.close
     (tie.spec
     seat-of-requires
-    enum-known-at
-    enum-told
-    plain-requires
-    same-length
+    (λ c. search needs) (λ c. search needs) (λ c κs. search needs) (λ c. search needs)
     returns
     load-requires
-    plain-requires-2
-    same-length-2
+    (λ c κs. search needs) (λ c. search needs)
     returns-2
     touch-at-requires
-    same-length-3
+    (λ c. search needs)
     returns-3)

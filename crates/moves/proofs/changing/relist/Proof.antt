@@ -28,12 +28,9 @@ enlist-requires c κs =
     let unlisted = c .before .before .before in
     relist-room (start-of (other-of unlisted) .pre .relistable) (unlisted .unlist .ensures) (unlisted .unlist .kept .0)
 
-same-length : tie.Need-same-length
-same-length c = search needs
-
 returns-2 : tie.Need-returns-2
 returns-2 c = λ before after t. relisted-anew t (c .before .before .before .before .before .before .unlist .ensures) (c .before .before .enlist .ensures)
 
 pub relist-spec : {M : Type 1} → statement M
 relist-spec =
-    tie.close (tie.spec returns unlist-requires sub-enlist enlist-requires same-length returns-2)
+    tie.close (tie.spec returns unlist-requires sub-enlist enlist-requires (λ c. search needs) returns-2)

@@ -20,9 +20,6 @@ load-requires c κs =
     let start = c .before .before .before in
     slot-inside (start .pre .holds) (start .pre .stands)
 
-cast-relist : tie.Need-cast-relist
-cast-relist c = search needs
-
 relist-requires : tie.Need-relist-requires
 relist-requires c κs =
     let loaded = c .before .before .before in
@@ -33,15 +30,6 @@ store-requires : tie.Need-store-requires
 store-requires c κs =
     let start = start-of (loaded-of (c .before .before .before)) in
     slot-inside (start .pre .holds) (start .pre .stands)
-
-count-over-requires : tie.Need-count-over-requires
-count-over-requires c κs = search needs
-
-same-length : tie.Need-same-length
-same-length c = search needs
-
-same-length-2 : tie.Need-same-length-2
-same-length-2 c = search needs
 
 returns : tie.Need-returns
 returns c =
@@ -64,10 +52,8 @@ replace-at-spec =
     tie.close
     (tie.spec
     load-requires
-    cast-relist
+    (λ c. search needs)
     relist-requires
     store-requires
-    count-over-requires
-    same-length
-    same-length-2
+    (λ c κs. search needs) (λ c. search needs) (λ c. search needs)
     returns)

@@ -4,15 +4,6 @@ use Rattle.moves.proofs.Change.{rewritten-at}
 use Rattle.moves.proofs.changing.rewrite_at.Statement.{statement}
 use Rattle.moves.proofs.changing.rewrite_at.Tie as tie
 
-load-requires : tie.Need-load-requires
-load-requires c κs = search needs
-
-store-requires : tie.Need-store-requires
-store-requires c κs = search needs
-
-same-length : tie.Need-same-length
-same-length c = search needs
-
 returns : tie.Need-returns
 returns c = λ by-key by-handle marks head w key e H at. rewritten-at H at (c .before .before .before .before .before .before .before .pre .flags) (record {
   long = c .before .before .store .kept .0;
@@ -20,4 +11,4 @@ returns c = λ by-key by-handle marks head w key e H at. rewritten-at H at (c .b
 })
 
 pub rewrite-at-spec : {M : Type 1} → statement M
-rewrite-at-spec = tie.close (tie.spec load-requires store-requires same-length returns)
+rewrite-at-spec = tie.close (tie.spec (λ c κs. search needs) (λ c κs. search needs) (λ c. search needs) returns)

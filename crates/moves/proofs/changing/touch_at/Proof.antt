@@ -4,18 +4,6 @@ use Rattle.moves.proofs.Change.{touched-at}
 use Rattle.moves.proofs.changing.touch_at.Statement.{statement}
 use Rattle.moves.proofs.changing.touch_at.Tie as tie
 
-load-requires : tie.Need-load-requires
-load-requires c κs = search needs
-
-bump-ref-requires : tie.Need-bump-ref-requires
-bump-ref-requires c κs = search needs
-
-store-requires : tie.Need-store-requires
-store-requires c κs = search needs
-
-same-length : tie.Need-same-length
-same-length c = search needs
-
 returns : tie.Need-returns
 returns c = λ by-key by-handle marks head w key e H at. touched-at H at (record {
   long = c .before .before .store .kept .0;
@@ -24,4 +12,4 @@ returns c = λ by-key by-handle marks head w key e H at. touched-at H at (record
 
 pub touch-at-spec : {M : Type 1} → statement M
 touch-at-spec =
-    tie.close (tie.spec load-requires bump-ref-requires store-requires same-length returns)
+    tie.close (tie.spec (λ c κs. search needs) (λ c κs. search needs) (λ c κs. search needs) (λ c. search needs) returns)

@@ -4,23 +4,11 @@ use borrow.Author.Needs.{needs}
 use Rattle.moves.proofs.estimate.count_over.Statement.{statement}
 use Rattle.moves.proofs.estimate.count_over.Tie as tie
 
-counted-as-evictable-requires : tie.Need-counted-as-evictable-requires
-counted-as-evictable-requires c κs = search needs
-
-counted-as-evictable-requires-2 : tie.Need-counted-as-evictable-requires-2
-counted-as-evictable-requires-2 c κs = search needs
-
 returns : tie.Need-returns
 returns c = rw (sym (c .before .before .counted-as-evictable2 .ensures) ∙ c .before .if1 .taken, sym (c .before .before .before .counted-as-evictable .ensures) ∙ c .if2 .taken)
 
-count-down-requires : tie.Need-count-down-requires
-count-down-requires c κs = search needs
-
 returns-2 : tie.Need-returns-2
 returns-2 c = rw (sym (c .before .before .before .counted-as-evictable2 .ensures) ∙ c .before .before .if1 .taken, sym (c .before .before .before .before .counted-as-evictable .ensures) ∙ c .before .if2 .left) (c .count-down .ensures)
-
-count-up-requires : tie.Need-count-up-requires
-count-up-requires c κs = search needs
 
 returns-3 : tie.Need-returns-3
 returns-3 c = rw (sym (c .before .before .before .counted-as-evictable2 .ensures) ∙ c .before .before .if1 .left, sym (c .before .before .before .before .counted-as-evictable .ensures) ∙ c .before .if3 .taken) (c .count-up .ensures)
@@ -32,11 +20,10 @@ pub count-over-spec : {M : Type 1} → statement M
 count-over-spec =
     tie.close
     (tie.spec
-    counted-as-evictable-requires
-    counted-as-evictable-requires-2
+    (λ c κs. search needs) (λ c κs. search needs)
     returns
-    count-down-requires
+    (λ c κs. search needs)
     returns-2
-    count-up-requires
+    (λ c κs. search needs)
     returns-3
     returns-4)

@@ -4,9 +4,6 @@ use borrow.Author.Needs.{needs}
 use Rattle.moves.proofs.placing.head_with.Statement.{statement}
 use Rattle.moves.proofs.placing.head_with.Tie as tie
 
-add-grown : tie.Need-add-grown
-add-grown c = search needs
-
 returns : tie.Need-returns
 returns c = rw (eq-eqb (c .before .before .before .args .head .held) 0 (c .if1 .taken))
 
@@ -14,4 +11,4 @@ returns-2 : tie.Need-returns-2
 returns-2 c = rw (ne-eqb (c .before .before .before .args .head .held) 0 (c .if1 .left))
 
 pub head-with-spec : {M : Type 1} → statement M
-head-with-spec = tie.close (tie.spec add-grown returns returns-2)
+head-with-spec = tie.close (tie.spec (λ c. search needs) returns returns-2)

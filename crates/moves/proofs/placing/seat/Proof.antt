@@ -7,17 +7,8 @@ use Rattle.moves.proofs.placing.seat.Tie as tie
 link-after-requires : tie.Need-link-after-requires
 link-after-requires c κs = c .before .before .before .before .pre .linkable (c .before .if1 .taken)
 
-same-length : tie.Need-same-length
-same-length c = search needs
-
 returns : tie.Need-returns
 returns c = rw (ne-eqb (c .before .before .before .before .before .before .before .args .head .held) 0 (c .before .before .before .before .if1 .taken)) (c .before .before .link-after .ensures)
-
-link-first-requires : tie.Need-link-first-requires
-link-first-requires c κs = search needs
-
-same-length-2 : tie.Need-same-length-2
-same-length-2 c = search needs
 
 returns-2 : tie.Need-returns-2
 returns-2 c = rw (eq-eqb (c .before .before .before .before .before .before .before .args .head .held) 0 (c .before .before .before .before .if1 .left)) (c .before .before .link-first .ensures)
@@ -25,4 +16,4 @@ returns-2 c = rw (eq-eqb (c .before .before .before .before .before .before .bef
 pub seat-spec : {M : Type 1} → statement M
 seat-spec =
     tie.close
-    (tie.spec link-after-requires same-length returns link-first-requires same-length-2 returns-2)
+    (tie.spec link-after-requires (λ c. search needs) returns (λ c κs. search needs) (λ c. search needs) returns-2)

@@ -4,9 +4,6 @@ use borrow.Author.Needs.{needs}
 use Rattle.moves.proofs.removing.head_without.Statement.{statement}
 use Rattle.moves.proofs.removing.head_without.Tie as tie
 
-sub-left : tie.Need-sub-left
-sub-left c = search needs
-
 returns : tie.Need-returns
 returns c = rw (eq-eqb (c .before .before .before .args .head .held) 1 (c .if1 .taken))
 
@@ -23,4 +20,4 @@ returns-3 c =
     rw (ne-eqb (start .args .head .held) 1 (more .if1 .left), ne-eqb (start .args .head .hand .0) (start .args .s .0) (c .if2 .left))
 
 pub head-without-spec : {M : Type 1} → statement M
-head-without-spec = tie.close (tie.spec sub-left returns returns-2 returns-3)
+head-without-spec = tie.close (tie.spec (λ c. search needs) returns returns-2 returns-3)

@@ -22,9 +22,6 @@ loaded-of c = c .before .before .before
 abbrev start-of : tie.After-load → tie.Start
 start-of c = c .before .before .before .before .before .before .before
 
-cast-n : tie.Need-cast-n
-cast-n c = search needs
-
 load-requires : tie.Need-load-requires
 load-requires c κs =
     let start = c .before .before .before .before .before .before in
@@ -46,25 +43,10 @@ mark-free-requires c κs =
     let start = start-of (loaded-of (keys-of (handles-of (c .before .before .before)))) in
     slot-marked (start .pre .holds) (start .pre .stands)
 
-count-out-requires : tie.Need-count-out-requires
-count-out-requires c κs = search needs
-
 head-without-requires : tie.Need-head-without-requires
 head-without-requires c κs =
     let start = start-of (loaded-of (keys-of (handles-of (unlinked-of (c .before .before .before))))) in
     some-held (start .pre .holds) (start .pre .stands)
-
-same-length : tie.Need-same-length
-same-length c = search needs
-
-same-length-2 : tie.Need-same-length-2
-same-length-2 c = search needs
-
-same-length-3 : tie.Need-same-length-3
-same-length-3 c = search needs
-
-same-length-4 : tie.Need-same-length-4
-same-length-4 c = search needs
 
 returns : tie.Need-returns
 returns c =
@@ -93,16 +75,13 @@ pub remove-at-slot-spec : {M : Type 1} → statement M
 remove-at-slot-spec =
     tie.close
     (tie.spec
-    cast-n
+    (λ c. search needs)
     load-requires
     unlist-requires
     unlist-requires-2
     unlink-requires
     mark-free-requires
-    count-out-requires
+    (λ c κs. search needs)
     head-without-requires
-    same-length
-    same-length-2
-    same-length-3
-    same-length-4
+    (λ c. search needs) (λ c. search needs) (λ c. search needs) (λ c. search needs)
     returns)

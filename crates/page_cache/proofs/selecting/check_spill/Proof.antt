@@ -7,12 +7,6 @@ use Rattle.contract.proofs.Calling.{lent-typed, call-refused, call-acted}
 use Rattle.page_cache.proofs.selecting.check_spill.Statement.{statement}
 use Rattle.page_cache.proofs.selecting.check_spill.Tie as tie
 
-is-sound-requires : tie.Need-is-sound-requires
-is-sound-requires c κs = search needs
-
-plain-requires : tie.Need-plain-requires
-plain-requires c κs = search needs
-
 returns : tie.Need-returns
 returns c =
     let tested = c .before .before in
@@ -22,9 +16,6 @@ returns c =
 
 check-spill-requires : tie.Need-check-spill-requires
 check-spill-requires c κs = sound-readable (passes (c .before .before .is-sound .ensures) (c .before .if1 .left))
-
-same-length : tie.Need-same-length
-same-length c = search needs
 
 returns-2 : tie.Need-returns-2
 returns-2 c =
@@ -38,4 +29,4 @@ returns-2 c =
 pub check-spill-spec : {M : Type 1} → statement M
 check-spill-spec =
     tie.close
-    (tie.spec is-sound-requires plain-requires returns check-spill-requires same-length returns-2)
+    (tie.spec (λ c κs. search needs) (λ c κs. search needs) returns check-spill-requires (λ c. search needs) returns-2)

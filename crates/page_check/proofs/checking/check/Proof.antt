@@ -6,35 +6,11 @@ use borrow.Author.Needs.{needs}
 use Rattle.page_check.proofs.checking.check.Statement.{statement}
 use Rattle.page_check.proofs.checking.check.Tie as tie
 
-slice-aggregate-fill : tie.Need-slice-aggregate-fill
-slice-aggregate-fill c = search needs
-
-fill-requires : tie.Need-fill-requires
-fill-requires c κs = search needs
-
-fail-requires : tie.Need-fail-requires
-fail-requires c κs = search needs
-
 returns : tie.Need-returns
 returns c = search needs
 
-array-share-prefix-piece : tie.Need-array-share-prefix-piece
-array-share-prefix-piece c = search needs
-
 slice-aggregate-open : tie.Need-slice-aggregate-open
 slice-aggregate-open c = simp length-take (omega arith)
-
-open-requires : tie.Need-open-requires
-open-requires c κs = search needs
-
-enum-known-fault : tie.Need-enum-known-fault
-enum-known-fault c = search needs
-
-no-database-requires : tie.Need-no-database-requires
-no-database-requires c κs = search needs
-
-enum-known-database : tie.Need-enum-known-database
-enum-known-database c = search needs
 
 check-database-requires : tie.Need-check-database-requires
 check-database-requires c κs =
@@ -51,16 +27,11 @@ pub check-spec : {M : Type 1} → statement M
 check-spec =
     tie.close
     (tie.spec
-    slice-aggregate-fill
-    fill-requires
-    fail-requires
+    (λ c. search needs) (λ c κs. search needs) (λ c κs. search needs)
     returns
-    array-share-prefix-piece
+    (λ c. search needs)
     slice-aggregate-open
-    open-requires
-    enum-known-fault
-    no-database-requires
-    enum-known-database
+    (λ c κs. search needs) (λ c. search needs) (λ c κs. search needs) (λ c. search needs)
     check-database-requires
     returns-2
     returns-3)

@@ -10,12 +10,6 @@ use Rattle.page_check.proofs.checking.page_start.Tie as tie
 before : (c : tie.Start) → (c .args .number - 1) * c .args .page-size ≤ 4294967295 * 65536
 before c = mul-le-mul {n₂ = 4294967295} {m₂ = 65536} (omega arith) (omega arith)
 
-sub-result : tie.Need-sub-result
-sub-result c = search needs
-
-cast-result : tie.Need-cast-result
-cast-result c = search needs
-
 mul-result : tie.Need-mul-result
 mul-result c = omega (arith, before c)
 
@@ -26,4 +20,4 @@ returns : tie.Need-returns
 returns c = search needs
 
 pub page-start-spec : {M : Type 1} → statement M
-page-start-spec = tie.close (tie.spec sub-result cast-result mul-result cast-result-2 returns)
+page-start-spec = tie.close (tie.spec (λ c. search needs) (λ c. search needs) mul-result cast-result-2 returns)

@@ -11,47 +11,20 @@ Inv-loop fd says piece₀ database pages out₀ at₀ totals₀ number₀ piece 
 abbrev μ-loop : tie.MeasureT-loop
 μ-loop fd says piece₀ database pages out₀ at₀ totals₀ number₀ piece out at totals number = 4294967295 - number
 
-put-sizes-requires : tie.Need-put-sizes-requires Inv-loop μ-loop
-put-sizes-requires c κs = search needs
-
 loop-holds : tie.Need-loop-holds Inv-loop μ-loop
 loop-holds c = search needs
-
-read-page-requires : tie.Need-read-page-requires Inv-loop μ-loop
-read-page-requires c κs = search needs
-
-enum-known-found : tie.Need-enum-known-found Inv-loop μ-loop
-enum-known-found c = search needs
-
-finish-requires : tie.Need-finish-requires Inv-loop μ-loop
-finish-requires c κs = search needs
 
 returns : tie.Need-returns Inv-loop μ-loop
 returns c = search needs
 
-next-place-requires : tie.Need-next-place-requires Inv-loop μ-loop
-next-place-requires c κs = search needs
-
 returns-2 : tie.Need-returns-2 Inv-loop μ-loop
 returns-2 c = search needs
-
-put-page-requires : tie.Need-put-page-requires Inv-loop μ-loop
-put-page-requires c κs = search needs
-
-counted-requires : tie.Need-counted-requires Inv-loop μ-loop
-counted-requires c κs = search needs
-
-add-number : tie.Need-add-number Inv-loop μ-loop
-add-number c = search needs
 
 loop-less : tie.Need-loop-less Inv-loop μ-loop
 loop-less c = search needs
 
 loop-again : tie.Need-loop-again Inv-loop μ-loop
 loop-again c = search needs
-
-finish-requires-2 : tie.Need-finish-requires-2 Inv-loop μ-loop
-finish-requires-2 c κs = search needs
 
 returns-3 : tie.Need-returns-3 Inv-loop μ-loop
 returns-3 c = search needs
@@ -62,18 +35,14 @@ check-pages-spec =
     (tie.spec
     Inv-loop
     μ-loop
-    put-sizes-requires
+    (λ c κs. search needs)
     loop-holds
-    read-page-requires
-    enum-known-found
-    finish-requires
+    (λ c κs. search needs) (λ c. search needs) (λ c κs. search needs)
     returns
-    next-place-requires
+    (λ c κs. search needs)
     returns-2
-    put-page-requires
-    counted-requires
-    add-number
+    (λ c κs. search needs) (λ c κs. search needs) (λ c. search needs)
     loop-less
     loop-again
-    finish-requires-2
+    (λ c κs. search needs)
     returns-3)

@@ -5,35 +5,14 @@ use borrow.Author.Needs.{needs}
 use Rattle.page_check.proofs.listing.read_page.Statement.{statement}
 use Rattle.page_check.proofs.listing.read_page.Tie as tie
 
-cast-fill : tie.Need-cast-fill
-cast-fill c = search needs
-
-fill-requires : tie.Need-fill-requires
-fill-requires c κs = search needs
-
-same-length : tie.Need-same-length
-same-length c = search needs
-
 returns : tie.Need-returns
 returns c = search needs
-
-same-length-2 : tie.Need-same-length-2
-same-length-2 c = search needs
 
 returns-2 : tie.Need-returns-2
 returns-2 c = search needs
 
-slice-reshare-prefix-check : tie.Need-slice-reshare-prefix-check
-slice-reshare-prefix-check c = search needs
-
 slice-aggregate-check : tie.Need-slice-aggregate-check
 slice-aggregate-check c = simp length-take (omega arith)
-
-check-requires : tie.Need-check-requires
-check-requires c κs = search needs
-
-same-length-3 : tie.Need-same-length-3
-same-length-3 c = search needs
 
 returns-3 : tie.Need-returns-3
 returns-3 c = search needs
@@ -42,14 +21,11 @@ pub read-page-spec : {M : Type 1} → statement M
 read-page-spec =
     tie.close
     (tie.spec
-    cast-fill
-    fill-requires
-    same-length
+    (λ c. search needs) (λ c κs. search needs) (λ c. search needs)
     returns
-    same-length-2
+    (λ c. search needs)
     returns-2
-    slice-reshare-prefix-check
+    (λ c. search needs)
     slice-aggregate-check
-    check-requires
-    same-length-3
+    (λ c κs. search needs) (λ c. search needs)
     returns-3)

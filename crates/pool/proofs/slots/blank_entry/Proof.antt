@@ -4,12 +4,9 @@ use borrow.Author.Needs.{needs}
 use Rattle.pool.proofs.slots.blank_entry.Statement.{statement}
 use Rattle.pool.proofs.slots.blank_entry.Tie as tie
 
-new-requires : tie.Need-new-requires
-new-requires c κs = search needs
-
 returns : tie.Need-returns
 unfolding blank
 returns c = c .new .ensures
 
 pub blank-entry-spec : {M : Type 1} → statement M
-blank-entry-spec = tie.close (tie.spec new-requires returns)
+blank-entry-spec = tie.close (tie.spec (λ c κs. search needs) returns)

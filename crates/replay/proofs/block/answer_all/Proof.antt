@@ -25,32 +25,8 @@ turn-of c = c .before .before
 loop-holds : tie.Need-loop-holds Inv-loop μ-loop
 loop-holds c = search needs
 
-mul-from : tie.Need-mul-from Inv-loop μ-loop
-mul-from c = search needs
-
-add-end : tie.Need-add-end Inv-loop μ-loop
-add-end c = search needs
-
-next-place-requires : tie.Need-next-place-requires Inv-loop μ-loop
-next-place-requires c κs = search needs
-
 returns : tie.Need-returns Inv-loop μ-loop
 returns c = search needs
-
-sub-apply : tie.Need-sub-apply Inv-loop μ-loop
-sub-apply c = search needs
-
-part-apply-start : tie.Need-part-apply-start Inv-loop μ-loop
-part-apply-start c = search needs
-
-part-apply-end : tie.Need-part-apply-end Inv-loop μ-loop
-part-apply-end c = search needs
-
-apply-requires : tie.Need-apply-requires Inv-loop μ-loop
-apply-requires c κs = search needs
-
-put-lines-requires : tie.Need-put-lines-requires Inv-loop μ-loop
-put-lines-requires c κs = search needs
 
 add-i : tie.Need-add-i Inv-loop μ-loop
 add-i c =
@@ -80,15 +56,9 @@ answer-all-spec =
     Inv-loop
     μ-loop
     loop-holds
-    mul-from
-    add-end
-    next-place-requires
+    (λ c. search needs) (λ c. search needs) (λ c κs. search needs)
     returns
-    sub-apply
-    part-apply-start
-    part-apply-end
-    apply-requires
-    put-lines-requires
+    (λ c. search needs) (λ c. search needs) (λ c. search needs) (λ c κs. search needs) (λ c κs. search needs)
     add-i
     loop-less
     loop-again

@@ -16,45 +16,6 @@ loop-holds c = search needs
 returns : tie.Need-returns Inv-loop μ-loop
 returns c = search needs
 
-mul-put-page : tie.Need-mul-put-page Inv-loop μ-loop
-mul-put-page c = search needs
-
-mul-put-page-2 : tie.Need-mul-put-page-2 Inv-loop μ-loop
-mul-put-page-2 c = search needs
-
-element-copy-out-put-page : tie.Need-element-copy-out-put-page Inv-loop μ-loop
-element-copy-out-put-page c = search needs
-
-mul-put-page-3 : tie.Need-mul-put-page-3 Inv-loop μ-loop
-mul-put-page-3 c = search needs
-
-add-put-page : tie.Need-add-put-page Inv-loop μ-loop
-add-put-page c = search needs
-
-mul-put-page-4 : tie.Need-mul-put-page-4 Inv-loop μ-loop
-mul-put-page-4 c = search needs
-
-element-copy-out-put-page-2 : tie.Need-element-copy-out-put-page-2 Inv-loop μ-loop
-element-copy-out-put-page-2 c = search needs
-
-mul-put-page-5 : tie.Need-mul-put-page-5 Inv-loop μ-loop
-mul-put-page-5 c = search needs
-
-add-put-page-2 : tie.Need-add-put-page-2 Inv-loop μ-loop
-add-put-page-2 c = search needs
-
-mul-put-page-6 : tie.Need-mul-put-page-6 Inv-loop μ-loop
-mul-put-page-6 c = search needs
-
-element-copy-out-put-page-3 : tie.Need-element-copy-out-put-page-3 Inv-loop μ-loop
-element-copy-out-put-page-3 c = search needs
-
-put-page-requires : tie.Need-put-page-requires Inv-loop μ-loop
-put-page-requires c κs = search needs
-
-add-i : tie.Need-add-i Inv-loop μ-loop
-add-i c = search needs
-
 loop-less : tie.Need-loop-less Inv-loop μ-loop
 loop-less c = search needs
 
@@ -72,19 +33,9 @@ put-pages-spec =
     μ-loop
     loop-holds
     returns
-    mul-put-page
-    mul-put-page-2
-    element-copy-out-put-page
-    mul-put-page-3
-    add-put-page
-    mul-put-page-4
-    element-copy-out-put-page-2
-    mul-put-page-5
-    add-put-page-2
-    mul-put-page-6
-    element-copy-out-put-page-3
-    put-page-requires
-    add-i
+    (λ c. search needs) (λ c. search needs) (λ c. search needs) (λ c. search needs) (λ c. search needs) (λ c. search needs)
+    (λ c. search needs) (λ c. search needs) (λ c. search needs) (λ c. search needs) (λ c. search needs) (λ c κs. search needs)
+    (λ c. search needs)
     loop-less
     loop-again
     returns-2)

@@ -15,17 +15,8 @@ abbrev μ-loop : tie.MeasureT-loop
 loop-holds : tie.Need-loop-holds Inv-loop μ-loop
 loop-holds c = read-none _ _ _
 
-sub-left : tie.Need-sub-left Inv-loop μ-loop
-sub-left c = search needs
-
 mul-n : tie.Need-mul-n Inv-loop μ-loop
 mul-n c = omega (arith, read-room (c .before .before .pre) (c .before .loop .inv) (c .loop-test .taken))
-
-add-n : tie.Need-add-n Inv-loop μ-loop
-add-n c = search needs
-
-shared-slice-read-n : tie.Need-shared-slice-read-n Inv-loop μ-loop
-shared-slice-read-n c = search needs
 
 cast-n : tie.Need-cast-n Inv-loop μ-loop
 cast-n c = omega (arith, c .shared-slice-known .given (c .before .before .before .args .at + (c .before .before .loop .left - 1)))
@@ -49,10 +40,9 @@ number-at-spec =
     Inv-loop
     μ-loop
     loop-holds
-    sub-left
+    (λ c. search needs)
     mul-n
-    add-n
-    shared-slice-read-n
+    (λ c. search needs) (λ c. search needs)
     cast-n
     add-n-2
     loop-less

@@ -14,35 +14,14 @@ other-of c = c .before .before .before .before .before .before
 abbrev start-of : tie.Else1 → tie.Start
 start-of c = c .before .before .before .before .before .before .before
 
-plain-requires : tie.Need-plain-requires
-plain-requires c κs = search needs
-
 returns : tie.Need-returns
 returns c = λ w H. rw (c .plain .ensures) (resize-same _ H (c .before .if1 .taken))
-
-evict-to-requires : tie.Need-evict-to-requires
-evict-to-requires c κs = search needs
 
 resized-requires : tie.Need-resized-requires
 resized-requires c κs =
     let evictions = evictions-of c in
     let start = start-of (other-of evictions) in
     few-listed _ (start .pre .ready .sound .holds) (evictions .evict-to .ensures _ (start .pre .ready .sound .holds))
-
-same-length : tie.Need-same-length
-same-length c = search needs
-
-same-length-2 : tie.Need-same-length-2
-same-length-2 c = search needs
-
-same-length-3 : tie.Need-same-length-3
-same-length-3 c = search needs
-
-same-length-4 : tie.Need-same-length-4
-same-length-4 c = search needs
-
-same-length-5 : tie.Need-same-length-5
-same-length-5 c = search needs
 
 returns-2 : tie.Need-returns-2
 returns-2 c =
@@ -55,13 +34,9 @@ pub resize-within-spec : {M : Type 1} → statement M
 resize-within-spec =
     tie.close
     (tie.spec
-    plain-requires
+    (λ c κs. search needs)
     returns
-    evict-to-requires
+    (λ c κs. search needs)
     resized-requires
-    same-length
-    same-length-2
-    same-length-3
-    same-length-4
-    same-length-5
+    (λ c. search needs) (λ c. search needs) (λ c. search needs) (λ c. search needs) (λ c. search needs)
     returns-2)

@@ -3,9 +3,6 @@ use borrow.Author.Needs.{needs}
 use Rattle.resizing.proofs.resizing.resized.Statement.{statement}
 use Rattle.resizing.proofs.resizing.resized.Tie as tie
 
-cast-listed : tie.Need-cast-listed
-cast-listed c = search needs
-
 returns : tie.Need-returns
 returns c = rw (c .if1 .taken)
 
@@ -16,6 +13,6 @@ pub resized-spec : {M : Type 1} → statement M
 resized-spec =
     tie.close
     (tie.spec
-    cast-listed
+    (λ c. search needs)
     returns
     returns-2)

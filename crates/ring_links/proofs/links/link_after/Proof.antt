@@ -6,12 +6,6 @@ use borrow.Author.Needs.{needs}
 use Rattle.ring_links.proofs.links.link_after.Statement.{statement}
 use Rattle.ring_links.proofs.links.link_after.Tie as tie
 
-next-requires : tie.Need-next-requires
-next-requires c κs = search needs
-
-store-requires : tie.Need-store-requires
-store-requires c κs = search needs
-
 set-next-requires : tie.Need-set-next-requires
 set-next-requires c κs =
     let stored = c .before .before .before in
@@ -26,9 +20,6 @@ set-prev-requires c κs =
     let start = next .before .before .before in
     rw (linked .set-next .ensures, length-next, stored .store .ensures, length-set, next .next .ensures) (start .pre .after)
 
-same-length : tie.Need-same-length
-same-length c = search needs
-
 returns : tie.Need-returns
 unfolding linkedAfter
 returns c =
@@ -41,4 +32,4 @@ returns c =
 pub link-after-spec : {M : Type 1} → statement M
 link-after-spec =
     tie.close
-    (tie.spec next-requires store-requires set-next-requires set-prev-requires same-length returns)
+    (tie.spec (λ c κs. search needs) (λ c κs. search needs) set-next-requires set-prev-requires (λ c. search needs) returns)

@@ -3,11 +3,8 @@ use borrow.Author.Needs.{needs}
 use Rattle.ring_links.proofs.links.next.Statement.{statement}
 use Rattle.ring_links.proofs.links.next.Tie as tie
 
-load-requires : tie.Need-load-requires
-load-requires c κs = search needs
-
 returns : tie.Need-returns
 returns c = rw (c .before .load .ensures)
 
 pub next-spec : {M : Type 1} → statement M
-next-spec = tie.close (tie.spec load-requires returns)
+next-spec = tie.close (tie.spec (λ c κs. search needs) returns)

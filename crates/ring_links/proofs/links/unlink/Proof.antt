@@ -5,9 +5,6 @@ use borrow.Author.Needs.{needs}
 use Rattle.ring_links.proofs.links.unlink.Statement.{statement}
 use Rattle.ring_links.proofs.links.unlink.Tie as tie
 
-load-requires : tie.Need-load-requires
-load-requires c κs = search needs
-
 set-next-requires : tie.Need-set-next-requires
 set-next-requires c κs =
     let loaded = c .before .before .before in
@@ -21,18 +18,12 @@ set-prev-requires c κs =
     let start = loaded .before .before .before in
     rw (next-set .set-next .ensures, length-next, loaded .load .ensures) (start .pre .after)
 
-blank-entry-requires : tie.Need-blank-entry-requires
-blank-entry-requires c κs = search needs
-
 store-requires : tie.Need-store-requires
 store-requires c κs =
     let prev-set = c .before .before .before .before in
     let next-set = prev-set .before .before .before .before in
     let start = next-set .before .before .before .before .before .before .before in
     rw (prev-set .set-prev .ensures, length-prev, next-set .set-next .ensures, length-next) (start .pre .slot)
-
-same-length : tie.Need-same-length
-same-length c = search needs
 
 returns : tie.Need-returns
 unfolding unlinked
@@ -57,10 +48,10 @@ pub unlink-spec : {M : Type 1} → statement M
 unlink-spec =
     tie.close
     (tie.spec
-    load-requires
+    (λ c κs. search needs)
     set-next-requires
     set-prev-requires
-    blank-entry-requires
+    (λ c κs. search needs)
     store-requires
-    same-length
+    (λ c. search needs)
     returns)

@@ -11,9 +11,6 @@ use Rattle.sorted_index.proofs.Listed.{hit-is, miss-absent}
 use Rattle.sorted_index.proofs.enlisting.unlist.Statement.{statement}
 use Rattle.sorted_index.proofs.enlisting.unlist.Tie as tie
 
-find-requires : tie.Need-find-requires
-find-requires c κs = search needs
-
 abbrev start : tie.After-find → tie.Start
 start c = c .before .before .before .before
 
@@ -22,15 +19,6 @@ says : (c : tie.After-find) {spot : Spot} → c .find .result ≡ spot
     → FoundSpot (names (start c .args .by) (entries (now (start c .args .slots)))) (now (start c .args .order)) (start c .args .n)
     (start c .args .x) spot
 says c e = rw e at (c .find .ensures)
-
-enum-known-at : tie.Need-enum-known-at
-enum-known-at c = search needs
-
-enum-told : tie.Need-enum-told
-enum-told c = search needs
-
-same-length : tie.Need-same-length
-same-length c = search needs
 
 returns : tie.Need-returns
 returns c = λ before s after l apart held named.
@@ -43,9 +31,6 @@ unlist-at-requires c κs = record {
   fits = c .before .before .before .before .before .before .before .before .pre .fits;
 }
 
-same-length-2 : tie.Need-same-length-2
-same-length-2 c = search needs
-
 returns-2 : tie.Need-returns-2
 returns-2 c = λ before s after l apart held named.
     let hit = says (c .before .before .before .before .before .before .before) (c .before .before .before .before .before .at .given .1) in
@@ -55,11 +40,8 @@ pub unlist-spec : {M : Type 1} → statement M
 unlist-spec =
     tie.close
     (tie.spec
-    find-requires
-    enum-known-at
-    enum-told
-    same-length
+    (λ c κs. search needs) (λ c. search needs) (λ c. search needs) (λ c. search needs)
     returns
     unlist-at-requires
-    same-length-2
+    (λ c. search needs)
     returns-2)

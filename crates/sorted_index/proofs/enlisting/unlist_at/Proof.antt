@@ -4,15 +4,9 @@ use Rattle.sorted_index.proofs.Listed.{listed-leave}
 use Rattle.sorted_index.proofs.enlisting.unlist_at.Statement.{statement}
 use Rattle.sorted_index.proofs.enlisting.unlist_at.Tie as tie
 
-remove-at-requires : tie.Need-remove-at-requires
-remove-at-requires c κs = search needs
-
-same-length : tie.Need-same-length
-same-length c = search needs
-
 returns : tie.Need-returns
 returns c = λ col before s after l apart held stands.
     listed-leave before s after l apart held (search needs) stands (search needs) (c .before .before .remove-at .ensures)
 
 pub unlist-at-spec : {M : Type 1} → statement M
-unlist-at-spec = tie.close (tie.spec remove-at-requires same-length returns)
+unlist-at-spec = tie.close (tie.spec (λ c κs. search needs) (λ c. search needs) returns)

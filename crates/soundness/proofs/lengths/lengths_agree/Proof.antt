@@ -7,17 +7,8 @@ use Rattle.soundness.proofs.Passes.{decides-le}
 use Rattle.soundness.proofs.lengths.lengths_agree.Statement.{statement}
 use Rattle.soundness.proofs.lengths.lengths_agree.Tie as tie
 
-cast-if1 : tie.Need-cast-if1
-cast-if1 c = search needs
-
 returns : tie.Need-returns
 returns c = decides-no (λ a. omega (arith, a .most, c .if1 .taken))
-
-mul-result : tie.Need-mul-result
-mul-result c = search needs
-
-add-result : tie.Need-add-result
-add-result c = search needs
 
 returns-2 : tie.Need-returns-2
 returns-2 c = decides-as (decides-and (decides-and (decides-and (decides-le 1 _) (decides-eq _ _)) (decides-eq _ _)) (decides-eq _ _))
@@ -29,4 +20,4 @@ returns-2 c = decides-as (decides-and (decides-and (decides-and (decides-le 1 _)
     (λ a. (((a .some, a .lengths .slots), a .lengths .by-handle), a .lengths .marks))
 
 pub lengths-agree-spec : {M : Type 1} → statement M
-lengths-agree-spec = tie.close (tie.spec cast-if1 returns mul-result add-result returns-2)
+lengths-agree-spec = tie.close (tie.spec (λ c. search needs) returns (λ c. search needs) (λ c. search needs) returns-2)

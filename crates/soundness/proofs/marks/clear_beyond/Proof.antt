@@ -7,22 +7,10 @@ use Rattle.soundness.proofs.marks.clear_beyond.Tie as tie
 returns : tie.Need-returns
 returns c = beyond-none (c .before .pre) (c .if1 .taken)
 
-mul-result : tie.Need-mul-result
-mul-result c = search needs
-
-shared-slice-read-result : tie.Need-shared-slice-read-result
-shared-slice-read-result c = search needs
-
-cast-result : tie.Need-cast-result
-cast-result c = search needs
-
-shr-result : tie.Need-shr-result
-shr-result c = search needs
-
 returns-2 : tie.Need-returns-2
 returns-2 c = beyond-tested (c .before .before .pre) (c .shared-slice-known .given _ .fits)
 
 pub clear-beyond-spec : {M : Type 1} → statement M
 clear-beyond-spec =
     tie.close
-    (tie.spec returns mul-result shared-slice-read-result cast-result shr-result returns-2)
+    (tie.spec returns (λ c. search needs) (λ c. search needs) (λ c. search needs) (λ c. search needs) returns-2)

@@ -5,9 +5,6 @@ use Rattle.pool.proofs.Decides.{passes, refuses, decides-eq, decides-as}
 use Rattle.soundness.proofs.marks.marks_agree.Statement.{statement}
 use Rattle.soundness.proofs.marks.marks_agree.Tie as tie
 
-clear-beyond-requires : tie.Need-clear-beyond-requires
-clear-beyond-requires c κs = search needs
-
 returns : tie.Need-returns
 returns c = refuses (c .before .clear-beyond .ensures) (c .if1 .taken) (λ p. p .beyond)
 
@@ -19,4 +16,4 @@ returns-2 c = decides-as (decides-eq _ _) (λ e. record { beyond = passes (c .be
     (λ p. c .count-held .ensures ∙ p .count)
 
 pub marks-agree-spec : {M : Type 1} → statement M
-marks-agree-spec = tie.close (tie.spec clear-beyond-requires returns count-held-requires returns-2)
+marks-agree-spec = tie.close (tie.spec (λ c κs. search needs) returns count-held-requires returns-2)

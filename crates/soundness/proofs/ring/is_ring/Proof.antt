@@ -11,11 +11,8 @@ returns c = walked-none (c .before .if1 .taken)
 returns-2 : tie.Need-returns-2
 returns-2 c = walked-outside (c .before .before .if1 .left) (omega arith)
 
-goes-round-requires : tie.Need-goes-round-requires
-goes-round-requires c κs = search needs
-
 returns-3 : tie.Need-returns-3
 returns-3 c = search needs
 
 pub is-ring-spec : {M : Type 1} → statement M
-is-ring-spec = tie.close (tie.spec returns returns-2 goes-round-requires returns-3)
+is-ring-spec = tie.close (tie.spec returns returns-2 (λ c κs. search needs) returns-3)

@@ -6,17 +6,11 @@ use Rattle.soundness.proofs.Joining.{sound-checked, marks-fit, readable
 use Rattle.soundness.proofs.sound.is_sound.Statement.{statement}
 use Rattle.soundness.proofs.sound.is_sound.Tie as tie
 
-lengths-agree-requires : tie.Need-lengths-agree-requires
-lengths-agree-requires c κs = search needs
-
 returns : tie.Need-returns
 returns c = refuses (c .before .lengths-agree .ensures) (c .if1 .taken) (λ s. sound-checked s .agreeing)
 
 cast-size : tie.Need-cast-size
 cast-size c = omega (arith, passes (c .before .lengths-agree .ensures) (c .if1 .left) .most)
-
-in-range-requires : tie.Need-in-range-requires
-in-range-requires c κs = search needs
 
 returns-2 : tie.Need-returns-2
 returns-2 c = refuses (c .before .in-range .ensures) (c .if2 .taken) (λ s. sound-checked s .range)
@@ -34,9 +28,6 @@ is-ring-requires c κs =
 
 returns-4 : tie.Need-returns-4
 returns-4 c = refuses (c .before .is-ring .ensures) (c .if4 .taken) (λ s. sound-checked s .ring)
-
-cast-n : tie.Need-cast-n
-cast-n c = search needs
 
 lists-requires : tie.Need-lists-requires
 lists-requires c κs =
@@ -94,16 +85,16 @@ pub is-sound-spec : {M : Type 1} → statement M
 is-sound-spec =
     tie.close
     (tie.spec
-    lengths-agree-requires
+    (λ c κs. search needs)
     returns
     cast-size
-    in-range-requires
+    (λ c κs. search needs)
     returns-2
     marks-agree-requires
     returns-3
     is-ring-requires
     returns-4
-    cast-n
+    (λ c. search needs)
     lists-requires
     returns-5
     lists-requires-2

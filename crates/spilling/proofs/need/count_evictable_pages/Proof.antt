@@ -20,15 +20,6 @@ loop-holds c = met-none _ _ _ _
 entry-at-requires : tie.Need-entry-at-requires Inv-loop μ-loop
 entry-at-requires c κs = readable-place (c .before .before .before .before .pre) (c .loop-test .taken)
 
-evictable-requires : tie.Need-evictable-requires Inv-loop μ-loop
-evictable-requires c κs = search needs
-
-add-count : tie.Need-add-count Inv-loop μ-loop
-add-count c = search needs
-
-add-i : tie.Need-add-i Inv-loop μ-loop
-add-i c = search needs
-
 loop-less : tie.Need-loop-less Inv-loop μ-loop
 loop-less c = search needs
 
@@ -53,9 +44,7 @@ count-evictable-pages-spec =
     μ-loop
     loop-holds
     entry-at-requires
-    evictable-requires
-    add-count
-    add-i
+    (λ c κs. search needs) (λ c. search needs) (λ c. search needs)
     loop-less
     loop-again
     returns)

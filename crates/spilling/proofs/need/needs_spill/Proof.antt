@@ -6,37 +6,16 @@ use Rattle.spilling.proofs.Needing.{awake, needs-idle, needs-room, need
 use Rattle.spilling.proofs.need.needs_spill.Statement.{statement}
 use Rattle.spilling.proofs.need.needs_spill.Tie as tie
 
-spill-threshold-requires : tie.Need-spill-threshold-requires
-spill-threshold-requires c κs = search needs
-
 returns : tie.Need-returns
 returns c = λ by-handle marks cache g. needs-idle g (c .before .before .before .spill-threshold .ensures) (c .if1 .taken)
 
 sub-needed : tie.Need-sub-needed
 sub-needed c = awake (c .before .before .before .before .before .before .before .args .head .spill) _ _ (c .before .if1 .left) .reached
 
-cast-room : tie.Need-cast-room
-cast-room c = search needs
-
-empty-slots-requires : tie.Need-empty-slots-requires
-empty-slots-requires c κs = search needs
-
-cast-room-2 : tie.Need-cast-room-2
-cast-room-2 c = search needs
-
-add-room : tie.Need-add-room
-add-room c = search needs
-
-cast-if2 : tie.Need-cast-if2
-cast-if2 c = search needs
-
 returns-2 : tie.Need-returns-2
 returns-2 c = λ by-handle marks cache g.
     needs-room g (c .before .before .before .before .before .before .before .spill-threshold .ensures)
     (awake _ _ _ (c .before .before .before .before .if1 .left)) (c .before .empty-slots .ensures) (omega arith)
-
-count-evictable-pages-requires : tie.Need-count-evictable-pages-requires
-count-evictable-pages-requires c κs = search needs
 
 returns-3 : tie.Need-returns-3
 returns-3 c = λ by-handle marks cache g.
@@ -48,14 +27,10 @@ pub needs-spill-spec : {M : Type 1} → statement M
 needs-spill-spec =
     tie.close
     (tie.spec
-    spill-threshold-requires
+    (λ c κs. search needs)
     returns
     sub-needed
-    cast-room
-    empty-slots-requires
-    cast-room-2
-    add-room
-    cast-if2
+    (λ c. search needs) (λ c κs. search needs) (λ c. search needs) (λ c. search needs) (λ c. search needs)
     returns-2
-    count-evictable-pages-requires
+    (λ c κs. search needs)
     returns-3)

@@ -5,20 +5,8 @@ use Rattle.spilling.proofs.Spilling.{spill-short, spill-acts}
 use Rattle.spilling.proofs.selection.check_spill.Statement.{statement}
 use Rattle.spilling.proofs.selection.check_spill.Tie as tie
 
-cast-if1 : tie.Need-cast-if1
-cast-if1 c = search needs
-
-plain-requires : tie.Need-plain-requires
-plain-requires c κs = search needs
-
 returns : tie.Need-returns
 returns c = λ by-handle marks d h. comes-told (c .plain .ensures) (spill-short _ h (c .before .if1 .taken))
-
-check-spill-listed-requires : tie.Need-check-spill-listed-requires
-check-spill-listed-requires c κs = search needs
-
-same-length : tie.Need-same-length
-same-length c = search needs
 
 returns-2 : tie.Need-returns-2
 returns-2 c = λ by-handle marks d h.
@@ -27,4 +15,4 @@ returns-2 c = λ by-handle marks d h.
 pub check-spill-spec : {M : Type 1} → statement M
 check-spill-spec =
     tie.close
-    (tie.spec cast-if1 plain-requires returns check-spill-listed-requires same-length returns-2)
+    (tie.spec (λ c. search needs) (λ c κs. search needs) returns (λ c κs. search needs) (λ c. search needs) returns-2)

@@ -6,33 +6,15 @@ use Rattle.spilling.proofs.Answering.{comes-not-needed, comes-none, com
 use Rattle.spilling.proofs.selection.check_spill_listed.Statement.{statement}
 use Rattle.spilling.proofs.selection.check_spill_listed.Tie as tie
 
-needs-spill-requires : tie.Need-needs-spill-requires
-needs-spill-requires c κs = search needs
-
-plain-requires : tie.Need-plain-requires
-plain-requires c κs = search needs
-
 returns : tie.Need-returns
 returns c = λ by-handle marks cache g.
     comes-not-needed _ g (c .before .before .needs-spill .ensures by-handle marks cache g) (not-true _ (c .before .if1 .taken)) (c .plain .ensures)
-
-collect-spillable-pages-requires : tie.Need-collect-spillable-pages-requires
-collect-spillable-pages-requires c κs = search needs
-
-plain-requires-2 : tie.Need-plain-requires-2
-plain-requires-2 c κs = search needs
-
-same-length : tie.Need-same-length
-same-length c = search needs
 
 returns-2 : tie.Need-returns-2
 returns-2 c = λ by-handle marks cache g.
     comes-none _ g (c .before .before .before .before .before .before .before .needs-spill .ensures by-handle marks cache g)
     (not-false _ (c .before .before .before .before .before .before .if1 .left))
     (c .before .before .before .before .collect-spillable-pages .ensures by-handle marks _ cache g refl) (c .before .if2 .taken) (c .plain2 .ensures)
-
-same-length-2 : tie.Need-same-length-2
-same-length-2 c = search needs
 
 returns-3 : tie.Need-returns-3
 returns-3 c = λ by-handle marks cache g.
@@ -44,12 +26,9 @@ pub check-spill-listed-spec : {M : Type 1} → statement M
 check-spill-listed-spec =
     tie.close
     (tie.spec
-    needs-spill-requires
-    plain-requires
+    (λ c κs. search needs) (λ c κs. search needs)
     returns
-    collect-spillable-pages-requires
-    plain-requires-2
-    same-length
+    (λ c κs. search needs) (λ c κs. search needs) (λ c. search needs)
     returns-2
-    same-length-2
+    (λ c. search needs)
     returns-3)

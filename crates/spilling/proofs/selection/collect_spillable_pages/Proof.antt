@@ -18,9 +18,6 @@ abbrev μ-loop : tie.MeasureT-loop
 loop-holds : tie.Need-loop-holds Inv-loop μ-loop
 loop-holds c = selecting-none _ _ _ _ _
 
-cast-if1 : tie.Need-cast-if1 Inv-loop μ-loop
-cast-if1 c = search needs
-
 same-length : tie.Need-same-length Inv-loop μ-loop
 same-length c = selecting-length (c .before .before .loop .inv) (c .before .before .before .before .before .before .pre .long)
 
@@ -31,26 +28,11 @@ entry-at-requires : tie.Need-entry-at-requires Inv-loop μ-loop
 entry-at-requires c κs =
     readable-place (c .before .before .before .before .before .before .pre .readable) (c .before .loop-test .taken)
 
-spillable-requires : tie.Need-spillable-requires Inv-loop μ-loop
-spillable-requires c κs = search needs
-
-cast-list : tie.Need-cast-list Inv-loop μ-loop
-cast-list c = search needs
-
-mul-list : tie.Need-mul-list Inv-loop μ-loop
-mul-list c = search needs
-
 slice-write-list : tie.Need-slice-write-list Inv-loop μ-loop
 slice-write-list c =
     let inv = c .before .before .before .before .before .loop .inv in
     let long = c .before .before .before .before .before .before .before .before .before .pre .long in
     omega (arith, selecting-length inv long)
-
-add-listed : tie.Need-add-listed Inv-loop μ-loop
-add-listed c = search needs
-
-add-i : tie.Need-add-i Inv-loop μ-loop
-add-i c = search needs
 
 loop-less : tie.Need-loop-less Inv-loop μ-loop
 loop-less c = search needs
@@ -79,16 +61,13 @@ collect-spillable-pages-spec =
     Inv-loop
     μ-loop
     loop-holds
-    cast-if1
+    (λ c. search needs)
     same-length
     returns
     entry-at-requires
-    spillable-requires
-    cast-list
-    mul-list
+    (λ c κs. search needs) (λ c. search needs) (λ c. search needs)
     slice-write-list
-    add-listed
-    add-i
+    (λ c. search needs) (λ c. search needs)
     loop-less
     loop-again
     same-length-2

@@ -5,15 +5,6 @@ use Rattle.text.proofs.Digits.{twenty}
 use Rattle.text.proofs.putting.put_number.Statement.{statement}
 use Rattle.text.proofs.putting.put_number.Tie as tie
 
-decimal-requires : tie.Need-decimal-requires
-decimal-requires c κs = search needs
-
-array-share-prefix-digits : tie.Need-array-share-prefix-digits
-array-share-prefix-digits c = search needs
-
-slice-aggregate-put-words : tie.Need-slice-aggregate-put-words
-slice-aggregate-put-words c = search needs
-
 put-words-requires : tie.Need-put-words-requires
 put-words-requires c κs =
     let at-digits = c .before .before in
@@ -28,8 +19,6 @@ pub put-number-spec : {M : Type 1} → statement M
 put-number-spec =
     tie.close
     (tie.spec
-    decimal-requires
-    array-share-prefix-digits
-    slice-aggregate-put-words
+    (λ c κs. search needs) (λ c. search needs) (λ c. search needs)
     put-words-requires
     returns)

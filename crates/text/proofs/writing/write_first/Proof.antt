@@ -11,12 +11,9 @@ returns c = search needs
 slice-aggregate-write-all : tie.Need-slice-aggregate-write-all
 slice-aggregate-write-all c = simp length-take (omega arith)
 
-write-all-requires : tie.Need-write-all-requires
-write-all-requires c κs = search needs
-
 returns-2 : tie.Need-returns-2
 returns-2 c = search needs
 
 pub write-first-spec : {M : Type 1} → statement M
 write-first-spec =
-    tie.close (tie.spec returns slice-aggregate-write-all write-all-requires returns-2)
+    tie.close (tie.spec returns slice-aggregate-write-all (λ c κs. search needs) returns-2)

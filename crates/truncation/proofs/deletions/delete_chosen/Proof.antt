@@ -44,9 +44,6 @@ loop-holds c =
     let start = c .before .before .before .before .before in
     progress-start (start .pre)
 
-cast-if1 : tie.Need-cast-if1 Inv-loop μ-loop
-cast-if1 c = search needs
-
 mul-named : tie.Need-mul-named Inv-loop μ-loop
 mul-named c =
     let loop = loop-of c in
@@ -87,9 +84,6 @@ delete-page-requires c κs =
     let turn = turn-of (looked-of (c .before .before .before .before .before)) in
     let loop = loop-of turn in
     progress-can-delete (loop .loop .inv) (turn .if1 .taken)
-
-enum-known-why : tie.Need-enum-known-why Inv-loop μ-loop
-enum-known-why c = search needs
 
 cast-listed : tie.Need-cast-listed Inv-loop μ-loop
 cast-listed c =
@@ -136,9 +130,6 @@ returns c =
     progress-refused (loop .loop .inv) (turn .if1 .taken)
     (λ x key e G at. says-refused x (e .page) _ _ _ _ _ _ (c .before .why .given .1) (deletion .delete-page .ensures x key e G at))
     (sym (looked .is-chosen-at .ensures) ∙ not-false _ (chosen .if2 .left))
-
-enum-known-next : tie.Need-enum-known-next Inv-loop μ-loop
-enum-known-next c = search needs
 
 add-count : tie.Need-add-count Inv-loop μ-loop
 add-count c =
@@ -211,7 +202,7 @@ delete-chosen-spec =
     Inv-loop
     μ-loop
     loop-holds
-    cast-if1
+    (λ c. search needs)
     mul-named
     slice-read-named
     is-chosen-at-requires
@@ -219,7 +210,7 @@ delete-chosen-spec =
     loop-less
     loop-again
     delete-page-requires
-    enum-known-why
+    (λ c. search needs)
     cast-listed
     same-length
     same-length-2
@@ -227,7 +218,7 @@ delete-chosen-spec =
     same-length-4
     same-length-5
     returns
-    enum-known-next
+    (λ c. search needs)
     add-count
     loop-less-2
     loop-again-2

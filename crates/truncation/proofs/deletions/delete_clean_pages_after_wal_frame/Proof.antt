@@ -15,12 +15,6 @@ long-of c = c .before .before .before .before .before .before
 abbrev start-of : tie.Else1 → tie.Start
 start-of c = c .before .before .before .before .before .before .before
 
-cast-if1 : tie.Need-cast-if1
-cast-if1 c = search needs
-
-plain-requires : tie.Need-plain-requires
-plain-requires c κs = search needs
-
 returns : tie.Need-returns
 returns c = λ w H. rw (c .plain .ensures) (comes-short (remove-frames _ _) H refl (c .before .if1 .taken))
 
@@ -29,21 +23,6 @@ delete-chosen-requires c κs =
     let long = c .before .before .before .before .before in
     let start = start-of long in
     record { ready = record { sound = start .pre; long = long .if1 .left }; within = omega arith; none = λ k h. absurd (omega arith) }
-
-same-length : tie.Need-same-length
-same-length c = search needs
-
-same-length-2 : tie.Need-same-length-2
-same-length-2 c = search needs
-
-same-length-3 : tie.Need-same-length-3
-same-length-3 c = search needs
-
-same-length-4 : tie.Need-same-length-4
-same-length-4 c = search needs
-
-same-length-5 : tie.Need-same-length-5
-same-length-5 c = search needs
 
 returns-2 : tie.Need-returns-2
 unfolding act
@@ -56,13 +35,8 @@ pub delete-clean-pages-after-wal-frame-spec : {M : Type 1} → statement M
 delete-clean-pages-after-wal-frame-spec =
     tie.close
     (tie.spec
-    cast-if1
-    plain-requires
+    (λ c. search needs) (λ c κs. search needs)
     returns
     delete-chosen-requires
-    same-length
-    same-length-2
-    same-length-3
-    same-length-4
-    same-length-5
+    (λ c. search needs) (λ c. search needs) (λ c. search needs) (λ c. search needs) (λ c. search needs)
     returns-2)

@@ -12,30 +12,15 @@ small-of c = c .before
 abbrev start-of : tie.Else1 → tie.Start
 start-of c = c .before .before .before
 
-cast-if1 : tie.Need-cast-if1
-cast-if1 c = search needs
-
 returns : tie.Need-returns
 returns c =
     let start = c .before .before .before in
     above-all _ _ _ _ (start .pre) (c .if1 .taken)
 
-cast-find : tie.Need-cast-find
-cast-find c = search needs
-
-find-requires : tie.Need-find-requires
-find-requires c κs = search needs
-
-enum-known-at : tie.Need-enum-known-at
-enum-known-at c = search needs
-
 add-result : tie.Need-add-result
 add-result c =
     let search = c .before .before .before in
     omega (arith, says-hit _ _ _ _ _ (c .before .at .given .1) (search .find .ensures) .within)
-
-enum-known-at-2 : tie.Need-enum-known-at-2
-enum-known-at-2 c = search needs
 
 returns-2 : tie.Need-returns-2
 returns-2 c =
@@ -53,12 +38,10 @@ pub first-above-spec : {M : Type 1} → statement M
 first-above-spec =
     tie.close
     (tie.spec
-    cast-if1
+    (λ c. search needs)
     returns
-    cast-find
-    find-requires
-    enum-known-at
+    (λ c. search needs) (λ c κs. search needs) (λ c. search needs)
     add-result
-    enum-known-at-2
+    (λ c. search needs)
     returns-2
     returns-3)

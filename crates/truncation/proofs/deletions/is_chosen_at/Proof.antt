@@ -7,12 +7,6 @@ use Rattle.truncation.specs.Deletions.{chooses}
 use Rattle.truncation.proofs.deletions.is_chosen_at.Statement.{statement}
 use Rattle.truncation.proofs.deletions.is_chosen_at.Tie as tie
 
-load-requires : tie.Need-load-requires
-load-requires c κs = search needs
-
-is-chosen-requires : tie.Need-is-chosen-requires
-is-chosen-requires c κs = search needs
-
 returns : tie.Need-returns
 returns c = c .is-chosen .ensures (c .before .before .before .args .s .0) ∙ ap (λ (e : PageCacheEntry). chooses (c .before .before .before .args .which) (seen (c .before .before .before .args .s .0) e .page)) (c .before .load .ensures)
 
@@ -20,6 +14,5 @@ pub is-chosen-at-spec : {M : Type 1} → statement M
 is-chosen-at-spec =
     tie.close
     (tie.spec
-    load-requires
-    is-chosen-requires
+    (λ c κs. search needs) (λ c κs. search needs)
     returns)

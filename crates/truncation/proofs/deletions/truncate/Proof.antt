@@ -18,12 +18,6 @@ long-of c = c .before .before .before
 abbrev start-of : tie.Else1 → tie.Start
 start-of c = c .before .before .before .before .before .before .before
 
-cast-if1 : tie.Need-cast-if1
-cast-if1 c = search needs
-
-plain-requires : tie.Need-plain-requires
-plain-requires c κs = search needs
-
 returns : tie.Need-returns
 returns c = λ w H. rw (c .plain .ensures) (comes-short (truncate _ _) H refl (c .before .if1 .taken))
 
@@ -39,21 +33,6 @@ delete-chosen-requires c κs =
     let start = start-of long in
     record { ready = record { sound = start .pre; long = long .if1 .left }; within = search .first-above .ensures .within; none = search .first-above .ensures .none }
 
-same-length : tie.Need-same-length
-same-length c = search needs
-
-same-length-2 : tie.Need-same-length-2
-same-length-2 c = search needs
-
-same-length-3 : tie.Need-same-length-3
-same-length-3 c = search needs
-
-same-length-4 : tie.Need-same-length-4
-same-length-4 c = search needs
-
-same-length-5 : tie.Need-same-length-5
-same-length-5 c = search needs
-
 returns-2 : tie.Need-returns-2
 unfolding act
 returns-2 c =
@@ -65,14 +44,9 @@ pub truncate-spec : {M : Type 1} → statement M
 truncate-spec =
     tie.close
     (tie.spec
-    cast-if1
-    plain-requires
+    (λ c. search needs) (λ c κs. search needs)
     returns
     first-above-requires
     delete-chosen-requires
-    same-length
-    same-length-2
-    same-length-3
-    same-length-4
-    same-length-5
+    (λ c. search needs) (λ c. search needs) (λ c. search needs) (λ c. search needs) (λ c. search needs)
     returns-2)

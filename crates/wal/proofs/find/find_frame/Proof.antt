@@ -14,18 +14,9 @@ Inv-loop log page left₀ length at₀ left at = Descent page length log left₀
 abbrev μ-loop : tie.MeasureT-loop
 μ-loop log page left₀ length at₀ left at = left
 
-committed-requires : tie.Need-committed-requires Inv-loop μ-loop
-committed-requires c κs = search needs
-
-reaches-requires : tie.Need-reaches-requires Inv-loop μ-loop
-reaches-requires c κs = search needs
-
 returns : tie.Need-returns Inv-loop μ-loop
 returns c =
     found-other _ _ _ _ (c .before .reaches .ensures) (c .before .before .committed .ensures) (not-true _ (c .if1 .taken))
-
-length-requires : tie.Need-length-requires Inv-loop μ-loop
-length-requires c κs = search needs
 
 mul-at : tie.Need-mul-at Inv-loop μ-loop
 mul-at c =
@@ -55,9 +46,6 @@ returns-2 c =
     ∙ found-newest _ _ _ _ (start .before .before .reaches .ensures) (start .before .before .before .committed .ensures)
     (not-false _ (start .before .if1 .left)) (start .length .ensures)
 
-sub-left : tie.Need-sub-left Inv-loop μ-loop
-sub-left c = search needs
-
 loop-less : tie.Need-loop-less Inv-loop μ-loop
 loop-less c = search needs
 
@@ -79,17 +67,16 @@ find-frame-spec =
     (tie.spec
     Inv-loop
     μ-loop
-    committed-requires
-    reaches-requires
+    (λ c κs. search needs) (λ c κs. search needs)
     returns
-    length-requires
+    (λ c κs. search needs)
     mul-at
     add-at
     loop-holds
     sub-at
     number-at-requires
     returns-2
-    sub-left
+    (λ c. search needs)
     loop-less
     loop-again
     returns-3)

@@ -8,17 +8,8 @@ use Rattle.wal.proofs.find.reaches.Tie as tie
 returns : tie.Need-returns
 returns c = reach-none _ _ _ (c .if1 .taken)
 
-sub-result : tie.Need-sub-result
-sub-result c = search needs
-
-length-requires : tie.Need-length-requires
-length-requires c κs = search needs
-
-div-result : tie.Need-div-result
-div-result c = search needs
-
 returns-2 : tie.Need-returns-2
 returns-2 c = reach-divided _ _ _ (c .length .ensures) (omega arith) (c .before .if1 .left)
 
 pub reaches-spec : {M : Type 1} → statement M
-reaches-spec = tie.close (tie.spec returns sub-result length-requires div-result returns-2)
+reaches-spec = tie.close (tie.spec returns (λ c. search needs) (λ c κs. search needs) (λ c. search needs) returns-2)

@@ -12,20 +12,11 @@ Inv-loop log count pages₀ sizes₀ length at₀ i₀ pages sizes at i = Fillin
 abbrev μ-loop : tie.MeasureT-loop
 μ-loop log count pages₀ sizes₀ length at₀ i₀ pages sizes at i = count - i
 
-length-requires : tie.Need-length-requires Inv-loop μ-loop
-length-requires c κs = search needs
-
 loop-holds : tie.Need-loop-holds Inv-loop μ-loop
 loop-holds c = filling-start (c .before .before .before .before .pre) (c .length .ensures)
 
 number-at-requires : tie.Need-number-at-requires Inv-loop μ-loop
 number-at-requires c κs = omega (arith, filling-room (c .before .loop .inv) (c .loop-test .taken))
-
-mul-pages : tie.Need-mul-pages Inv-loop μ-loop
-mul-pages c = search needs
-
-slice-write-pages : tie.Need-slice-write-pages Inv-loop μ-loop
-slice-write-pages c = search needs
 
 add-number-at : tie.Need-add-number-at Inv-loop μ-loop
 add-number-at c = omega (arith, filling-room (c .before .before .loop .inv) (c .before .loop-test .taken))
@@ -33,17 +24,8 @@ add-number-at c = omega (arith, filling-room (c .before .before .loop .inv) (c .
 number-at-requires-2 : tie.Need-number-at-requires-2 Inv-loop μ-loop
 number-at-requires-2 c κs = omega (arith, filling-room (c .before .before .loop .inv) (c .before .loop-test .taken))
 
-mul-sizes : tie.Need-mul-sizes Inv-loop μ-loop
-mul-sizes c = search needs
-
-slice-write-sizes : tie.Need-slice-write-sizes Inv-loop μ-loop
-slice-write-sizes c = search needs
-
 add-at : tie.Need-add-at Inv-loop μ-loop
 add-at c = omega (arith, filling-room (c .before .before .before .loop .inv) (c .before .before .loop-test .taken))
-
-add-i : tie.Need-add-i Inv-loop μ-loop
-add-i c = search needs
 
 loop-less : tie.Need-loop-less Inv-loop μ-loop
 loop-less c = search needs
@@ -52,12 +34,6 @@ loop-again : tie.Need-loop-again Inv-loop μ-loop
 loop-again c =
     let turn = c .before .before in
     filling-more (turn .before .loop .inv) (turn .loop-test .taken) (c .before .number-at .ensures) (c .number-at2 .ensures)
-
-same-length : tie.Need-same-length Inv-loop μ-loop
-same-length c = search needs
-
-same-length-2 : tie.Need-same-length-2 Inv-loop μ-loop
-same-length-2 c = search needs
 
 returns : tie.Need-returns Inv-loop μ-loop
 returns c =
@@ -70,19 +46,16 @@ fill-spec =
     (tie.spec
     Inv-loop
     μ-loop
-    length-requires
+    (λ c κs. search needs)
     loop-holds
     number-at-requires
-    mul-pages
-    slice-write-pages
+    (λ c. search needs) (λ c. search needs)
     add-number-at
     number-at-requires-2
-    mul-sizes
-    slice-write-sizes
+    (λ c. search needs) (λ c. search needs)
     add-at
-    add-i
+    (λ c. search needs)
     loop-less
     loop-again
-    same-length
-    same-length-2
+    (λ c. search needs) (λ c. search needs)
     returns)

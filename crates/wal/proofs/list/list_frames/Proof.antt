@@ -5,9 +5,6 @@ use Rattle.wal.proofs.Filling.{lists-other, lists-short, listable, list
 use Rattle.wal.proofs.list.list_frames.Statement.{statement}
 use Rattle.wal.proofs.list.list_frames.Tie as tie
 
-reaches-requires : tie.Need-reaches-requires
-reaches-requires c κs = search needs
-
 returns : tie.Need-returns
 returns c = lists-other _ _ _ _ (c .before .reaches .ensures) (not-true _ (c .if1 .taken))
 
@@ -19,12 +16,6 @@ fill-requires c κs =
     let passed = c .before .before in
     listable _ _ _ _ _ (passed .before .before .reaches .ensures) (not-false _ (passed .before .if1 .left)) (passed .if2 .left)
 
-same-length : tie.Need-same-length
-same-length c = search needs
-
-same-length-2 : tie.Need-same-length-2
-same-length-2 c = search needs
-
 returns-3 : tie.Need-returns-3
 returns-3 c =
     let done = c .before .before .before .before in
@@ -35,4 +26,4 @@ returns-3 c =
 pub list-frames-spec : {M : Type 1} → statement M
 list-frames-spec =
     tie.close
-    (tie.spec reaches-requires returns returns-2 fill-requires same-length same-length-2 returns-3)
+    (tie.spec (λ c κs. search needs) returns returns-2 fill-requires (λ c. search needs) (λ c. search needs) returns-3)

@@ -8,12 +8,6 @@ use Rattle.wal_frame.proofs.Framing.{next-cut, next-salts, valid-is, ne
 use Rattle.wal_frame.proofs.frame.next_at.Statement.{statement}
 use Rattle.wal_frame.proofs.frame.next_at.Tie as tie
 
-sub-if1 : tie.Need-sub-if1
-sub-if1 c = search needs
-
-length-requires : tie.Need-length-requires
-length-requires c κs = search needs
-
 -- what the sums say, once the frame is whole and its salts are the log's
 looked : (c : tie.After-same)
     → (let start = c .before .before .before .before .before .before .before .before in
@@ -32,9 +26,6 @@ returns c =
     let start = at-length .before .before in
     next-cut (start .args .header) (start .args .log .now) (start .args .at) (start .args .sums) (start .pre) (at-length .length .ensures) (c .if1 .taken)
 
-is-salted-requires : tie.Need-is-salted-requires
-is-salted-requires c κs = search needs
-
 returns-2 : tie.Need-returns-2
 returns-2 c =
     let at-salted = c .before in
@@ -42,15 +33,6 @@ returns-2 c =
     let at-length = at-if1 .before in
     let start = at-length .before .before in
     next-salts (start .args .header) (start .args .log .now) (start .args .at) (start .args .sums) (omega (arith, start .pre)) (at-salted .is-salted .ensures) (c .if2 .taken)
-
-frame-at-requires : tie.Need-frame-at-requires
-frame-at-requires c κs = search needs
-
-sums-after-requires : tie.Need-sums-after-requires
-sums-after-requires c κs = search needs
-
-same-requires : tie.Need-same-requires
-same-requires c κs = search needs
 
 returns-3 : tie.Need-returns-3
 returns-3 c = next-end _ _ _ _ (looked (c .before) ∙ not-true _ (c .if3 .taken))
@@ -62,13 +44,10 @@ pub next-at-spec : {M : Type 1} → statement M
 next-at-spec =
     tie.close
     (tie.spec
-    sub-if1
-    length-requires
+    (λ c. search needs) (λ c κs. search needs)
     returns
-    is-salted-requires
+    (λ c κs. search needs)
     returns-2
-    frame-at-requires
-    sums-after-requires
-    same-requires
+    (λ c κs. search needs) (λ c κs. search needs) (λ c κs. search needs)
     returns-3
     returns-4)

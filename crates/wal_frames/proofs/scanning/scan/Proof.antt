@@ -6,15 +6,6 @@ use Rattle.wal_frames.proofs.Turns.{scanned-refused, scanned-read}
 use Rattle.wal_frames.proofs.scanning.scan.Statement.{statement}
 use Rattle.wal_frames.proofs.scanning.scan.Tie as tie
 
-open-requires : tie.Need-open-requires
-open-requires c κs = search needs
-
-enum-known-fault : tie.Need-enum-known-fault
-enum-known-fault c = search needs
-
-enum-known-header : tie.Need-enum-known-header
-enum-known-header c = search needs
-
 scan-frames-requires : tie.Need-scan-frames-requires
 scan-frames-requires c κs =
     let at-open = c .before .before .before in
@@ -34,9 +25,7 @@ pub scan-spec : {M : Type 1} → statement M
 scan-spec =
     tie.close
     (tie.spec
-    open-requires
-    enum-known-fault
-    enum-known-header
+    (λ c κs. search needs) (λ c. search needs) (λ c. search needs)
     scan-frames-requires
     returns
     returns-2)

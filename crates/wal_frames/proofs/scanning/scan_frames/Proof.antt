@@ -13,9 +13,6 @@ Inv-loop log s₀ s = Reading log s₀ s
 abbrev μ-loop : tie.MeasureT-loop
 μ-loop log s₀ s = length log - s .end
 
-start-requires : tie.Need-start-requires Inv-loop μ-loop
-start-requires c κs = search needs
-
 loop-holds : tie.Need-loop-holds Inv-loop μ-loop
 loop-holds c = reading-none (c .start .ensures) (c .before .before .pre)
 
@@ -51,7 +48,7 @@ scan-frames-spec =
     (tie.spec
     Inv-loop
     μ-loop
-    start-requires
+    (λ c κs. search needs)
     loop-holds
     step-at-requires
     returns

@@ -5,15 +5,6 @@ use Rattle.wal_frames.proofs.Turns.{countable, stepped-end, stepped-val
 use Rattle.wal_frames.proofs.scanning.step_at.Statement.{statement}
 use Rattle.wal_frames.proofs.scanning.step_at.Tie as tie
 
-next-at-requires : tie.Need-next-at-requires
-next-at-requires c κs = search needs
-
-enum-told : tie.Need-enum-told
-enum-told c = search needs
-
-enum-known-frame : tie.Need-enum-known-frame
-enum-known-frame c = search needs
-
 add-frame-requires : tie.Need-add-frame-requires
 add-frame-requires c κs =
     let at-next = c .before .before .before in
@@ -34,4 +25,4 @@ returns-2 c =
 pub step-at-spec : {M : Type 1} → statement M
 step-at-spec =
     tie.close
-    (tie.spec next-at-requires enum-told enum-known-frame add-frame-requires returns returns-2)
+    (tie.spec (λ c κs. search needs) (λ c. search needs) (λ c. search needs) add-frame-requires returns returns-2)

@@ -44,56 +44,23 @@ compared c =
 returns : tie.Need-returns
 returns c = opened-length _ (c .if1 .taken)
 
-number-at-requires : tie.Need-number-at-requires
-number-at-requires c κs = search needs
-
-is-magic-requires : tie.Need-is-magic-requires
-is-magic-requires c κs = search needs
-
 returns-2 : tie.Need-returns-2
 returns-2 c =
     opened-magic _ (c .before .before .before .if1 .left)
     (tested isMagic (c .before .is-magic .ensures) (c .before .before .number-at .ensures) (not-true _ (c .if2 .taken)))
 
-number-at-requires-2 : tie.Need-number-at-requires-2
-number-at-requires-2 c κs = search needs
-
 returns-3 : tie.Need-returns-3
 returns-3 c = opened-version _ (known (c .before .before)) (λ same. c .if3 .taken (c .before .number-at2 .ensures ∙ same))
-
-number-at-requires-3 : tie.Need-number-at-requires-3
-number-at-requires-3 c κs = search needs
-
-is-page-size-requires : tie.Need-is-page-size-requires
-is-page-size-requires c κs = search needs
 
 returns-4 : tie.Need-returns-4
 returns-4 c =
     opened-page-size _ (current (c .before .before .before))
     (tested isPageSize (c .before .is-page-size .ensures) (c .before .before .number-at3 .ensures) (not-true _ (c .if4 .taken)))
 
-checksum-requires : tie.Need-checksum-requires
-checksum-requires c κs = search needs
-
-sums-at-requires : tie.Need-sums-at-requires
-sums-at-requires c κs = search needs
-
-same-requires : tie.Need-same-requires
-same-requires c κs = search needs
-
 returns-5 : tie.Need-returns-5
 returns-5 c =
     let at-same = c .before in
     opened-checksum _ (sized (at-same .before .before .before)) (sym (compared at-same) ∙ not-true _ (c .if5 .taken))
-
-number-at-requires-4 : tie.Need-number-at-requires-4
-number-at-requires-4 c κs = search needs
-
-number-at-requires-5 : tie.Need-number-at-requires-5
-number-at-requires-5 c κs = search needs
-
-number-at-requires-6 : tie.Need-number-at-requires-6
-number-at-requires-6 c κs = search needs
 
 returns-6 : tie.Need-returns-6
 returns-6 c =
@@ -111,19 +78,13 @@ open-spec =
     tie.close
     (tie.spec
     returns
-    number-at-requires
-    is-magic-requires
+    (λ c κs. search needs) (λ c κs. search needs)
     returns-2
-    number-at-requires-2
+    (λ c κs. search needs)
     returns-3
-    number-at-requires-3
-    is-page-size-requires
+    (λ c κs. search needs) (λ c κs. search needs)
     returns-4
-    checksum-requires
-    sums-at-requires
-    same-requires
+    (λ c κs. search needs) (λ c κs. search needs) (λ c κs. search needs)
     returns-5
-    number-at-requires-4
-    number-at-requires-5
-    number-at-requires-6
+    (λ c κs. search needs) (λ c κs. search needs) (λ c κs. search needs)
     returns-6)

@@ -7,35 +7,11 @@ use Rattle.wal_scan.proofs.Sized.{sized}
 use Rattle.wal_scan.proofs.scanning.scan.Statement.{statement}
 use Rattle.wal_scan.proofs.scanning.scan.Tie as tie
 
-slice-aggregate-fill : tie.Need-slice-aggregate-fill
-slice-aggregate-fill c = search needs
-
-fill-requires : tie.Need-fill-requires
-fill-requires c κs = search needs
-
-fail-requires : tie.Need-fail-requires
-fail-requires c κs = search needs
-
 returns : tie.Need-returns
 returns c = search needs
 
-array-share-prefix-piece : tie.Need-array-share-prefix-piece
-array-share-prefix-piece c = search needs
-
 slice-aggregate-open : tie.Need-slice-aggregate-open
 slice-aggregate-open c = simp length-take (omega arith)
-
-open-requires : tie.Need-open-requires
-open-requires c κs = search needs
-
-enum-known-fault : tie.Need-enum-known-fault
-enum-known-fault c = search needs
-
-refuse-requires : tie.Need-refuse-requires
-refuse-requires c κs = search needs
-
-enum-known-header : tie.Need-enum-known-header
-enum-known-header c = search needs
 
 scan-frames-requires : tie.Need-scan-frames-requires
 scan-frames-requires c κs =
@@ -51,16 +27,11 @@ pub scan-spec : {M : Type 1} → statement M
 scan-spec =
     tie.close
     (tie.spec
-    slice-aggregate-fill
-    fill-requires
-    fail-requires
+    (λ c. search needs) (λ c κs. search needs) (λ c κs. search needs)
     returns
-    array-share-prefix-piece
+    (λ c. search needs)
     slice-aggregate-open
-    open-requires
-    enum-known-fault
-    refuse-requires
-    enum-known-header
+    (λ c κs. search needs) (λ c. search needs) (λ c κs. search needs) (λ c. search needs)
     scan-frames-requires
     returns-2
     returns-3)

@@ -19,29 +19,11 @@ turn-of c = c .before .before .before .before .before .before .before .before .b
 abbrev loop-of : tie.Then1 Inv-loop μ-loop → tie.At-loop Inv-loop μ-loop
 loop-of c = c .before .before
 
-put-page-size-requires : tie.Need-put-page-size-requires Inv-loop μ-loop
-put-page-size-requires c κs = search needs
-
-start-requires : tie.Need-start-requires Inv-loop μ-loop
-start-requires c κs = search needs
-
 loop-holds : tie.Need-loop-holds Inv-loop μ-loop
 loop-holds c = going-none (c .start .ensures) (omega arith)
 
-read-frame-requires : tie.Need-read-frame-requires Inv-loop μ-loop
-read-frame-requires c κs = search needs
-
-enum-known-found : tie.Need-enum-known-found Inv-loop μ-loop
-enum-known-found c = search needs
-
-finish-requires : tie.Need-finish-requires Inv-loop μ-loop
-finish-requires c κs = search needs
-
 returns : tie.Need-returns Inv-loop μ-loop
 returns c = search needs
-
-next-place-requires : tie.Need-next-place-requires Inv-loop μ-loop
-next-place-requires c κs = search needs
 
 returns-2 : tie.Need-returns-2 Inv-loop μ-loop
 returns-2 c = search needs
@@ -51,9 +33,6 @@ add-frame-requires c κs =
     let turn = turn-of c in
     let loop = loop-of turn in
     countable (loop .loop .inv) (loop .before .before .before .before .before .pre) (turn .if1 .taken)
-
-put-frame-requires : tie.Need-put-frame-requires Inv-loop μ-loop
-put-frame-requires c κs = search needs
 
 loop-less : tie.Need-loop-less Inv-loop μ-loop
 loop-less c =
@@ -68,9 +47,6 @@ loop-again c =
     let room = at-frame .before .before .before .next-place .ensures in
     going-more (loop .loop .inv) _ (at-frame .add-frame .ensures) (omega (arith, c .put-frame .ensures, room))
 
-finish-requires-2 : tie.Need-finish-requires-2 Inv-loop μ-loop
-finish-requires-2 c κs = search needs
-
 returns-3 : tie.Need-returns-3 Inv-loop μ-loop
 returns-3 c = search needs
 
@@ -80,18 +56,15 @@ scan-frames-spec =
     (tie.spec
     Inv-loop
     μ-loop
-    put-page-size-requires
-    start-requires
+    (λ c κs. search needs) (λ c κs. search needs)
     loop-holds
-    read-frame-requires
-    enum-known-found
-    finish-requires
+    (λ c κs. search needs) (λ c. search needs) (λ c κs. search needs)
     returns
-    next-place-requires
+    (λ c κs. search needs)
     returns-2
     add-frame-requires
-    put-frame-requires
+    (λ c κs. search needs)
     loop-less
     loop-again
-    finish-requires-2
+    (λ c κs. search needs)
     returns-3)

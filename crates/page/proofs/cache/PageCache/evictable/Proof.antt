@@ -3,21 +3,6 @@ use borrow.Author.Needs.{needs}
 use Rattle.page.proofs.cache.PageCache.evictable.Statement.{statement}
 use Rattle.page.proofs.cache.PageCache.evictable.Tie as tie
 
-is-clean-or-spilled-requires : tie.Need-is-clean-or-spilled-requires
-is-clean-or-spilled-requires c κs = search needs
-
-is-locked-requires : tie.Need-is-locked-requires
-is-locked-requires c κs = search needs
-
-is-pinned-requires : tie.Need-is-pinned-requires
-is-pinned-requires c κs = search needs
-
-is-held-requires : tie.Need-is-held-requires
-is-held-requires c κs = search needs
-
-is-header-requires : tie.Need-is-header-requires
-is-header-requires c κs = search needs
-
 returns : tie.Need-returns
 returns c = cc
 
@@ -25,9 +10,5 @@ pub evictable-spec : {M : Type 1} → statement M
 evictable-spec =
     tie.close
     (tie.spec
-    is-clean-or-spilled-requires
-    is-locked-requires
-    is-pinned-requires
-    is-held-requires
-    is-header-requires
+    (λ c κs. search needs) (λ c κs. search needs) (λ c κs. search needs) (λ c κs. search needs) (λ c κs. search needs)
     returns)

@@ -6,9 +6,6 @@ use Rattle.page.specs.Entry.{withUses}
 use Rattle.page.proofs.entry.PageCacheEntry.bump_ref.Statement.{statement}
 use Rattle.page.proofs.entry.PageCacheEntry.bump_ref.Tie as tie
 
-add-self : tie.Need-add-self
-add-self c = search needs
-
 returns : tie.Need-returns
 returns c = ap (withUses (c .before .before .before .args .self)) (omega arith)
 
@@ -16,4 +13,4 @@ returns-2 : tie.Need-returns-2
 returns-2 c = ap (withUses (c .before .before .args .self)) (omega arith)
 
 pub bump-ref-spec : {M : Type 1} → statement M
-bump-ref-spec = tie.close (tie.spec add-self returns returns-2)
+bump-ref-spec = tie.close (tie.spec (λ c. search needs) returns returns-2)

@@ -6,9 +6,6 @@ use Rattle.page.specs.Entry.{withUses}
 use Rattle.page.proofs.entry.PageCacheEntry.decrement_ref.Statement.{statement}
 use Rattle.page.proofs.entry.PageCacheEntry.decrement_ref.Tie as tie
 
-sub-self : tie.Need-sub-self
-sub-self c = search needs
-
 returns : tie.Need-returns
 returns c = search needs
 
@@ -16,4 +13,4 @@ returns-2 : tie.Need-returns-2
 returns-2 c = ap (withUses (c .before .before .args .self)) (omega arith)
 
 pub decrement-ref-spec : {M : Type 1} → statement M
-decrement-ref-spec = tie.close (tie.spec sub-self returns returns-2)
+decrement-ref-spec = tie.close (tie.spec (λ c. search needs) returns returns-2)

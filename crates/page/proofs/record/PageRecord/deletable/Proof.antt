@@ -4,20 +4,11 @@ use borrow.Author.Needs.{needs}
 use Rattle.page.proofs.record.PageRecord.deletable.Statement.{statement}
 use Rattle.page.proofs.record.PageRecord.deletable.Tie as tie
 
-is-locked-requires : tie.Need-is-locked-requires
-is-locked-requires c κs = search needs
-
 returns : tie.Need-returns
 returns c = rw (sym (c .before .is-locked .ensures) ∙ c .if1 .taken)
 
-is-dirty-requires : tie.Need-is-dirty-requires
-is-dirty-requires c κs = search needs
-
 returns-2 : tie.Need-returns-2
 returns-2 c = rw (sym (c .before .before .before .is-locked .ensures) ∙ c .before .before .if1 .left, sym (c .before .is-dirty .ensures) ∙ c .if2 .taken)
-
-is-pinned-requires : tie.Need-is-pinned-requires
-is-pinned-requires c κs = search needs
 
 returns-3 : tie.Need-returns-3
 returns-3 c =
@@ -37,4 +28,4 @@ returns-4 c =
 
 pub deletable-spec : {M : Type 1} → statement M
 deletable-spec =
-    tie.close (tie.spec is-locked-requires returns is-dirty-requires returns-2 is-pinned-requires returns-3 returns-4)
+    tie.close (tie.spec (λ c κs. search needs) returns (λ c κs. search needs) returns-2 (λ c κs. search needs) returns-3 returns-4)

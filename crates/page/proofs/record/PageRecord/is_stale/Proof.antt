@@ -3,14 +3,8 @@ use borrow.Author.Needs.{needs}
 use Rattle.page.proofs.record.PageRecord.is_stale.Statement.{statement}
 use Rattle.page.proofs.record.PageRecord.is_stale.Tie as tie
 
-is-loaded-requires : tie.Need-is-loaded-requires
-is-loaded-requires c κs = search needs
-
-is-locked-requires : tie.Need-is-locked-requires
-is-locked-requires c κs = search needs
-
 returns : tie.Need-returns
 returns c = cc
 
 pub is-stale-spec : {M : Type 1} → statement M
-is-stale-spec = tie.close (tie.spec is-loaded-requires is-locked-requires returns)
+is-stale-spec = tie.close (tie.spec (λ c κs. search needs) (λ c κs. search needs) returns)
