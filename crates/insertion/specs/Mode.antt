@@ -1,4 +1,4 @@
--- The three forms of an insertion, and what the mode decides (01, rules 6 and 7).
+-- What the mode of an insertion decides: which of 01's three forms it has (rules 6 and 7).
 use mathlib.Core.Bool.{Bool, true, false}
 use Prim.Native.Nat.{ℕ}
 use lib.Dec.{ltb}

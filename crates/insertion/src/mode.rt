@@ -1,5 +1,5 @@
-// What an insertion is asked for: NewPage, the page with its key, its handle and its record; and InsertMode, in which of the three
-// forms.
+// What an insertion is asked for: NewPage, the page with its key, its handle and its record; and InsertMode, which of 01's three forms
+// the insertion has.
 //
 // The mode alone decides three things of rules 6 and 7, and callers may rely on its functions for each: whether a page that is there
 // is replaced, whether a page for which no room was made goes in all the same, and what is answered if not.

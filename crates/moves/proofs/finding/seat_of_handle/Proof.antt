@@ -68,8 +68,7 @@ pub seat-of-handle-spec : {M : Type 1} → statement M
 seat-of-handle-spec =
     tie.close
     (tie.spec
-    (λ c κs. search needs)
-    (λ c. search needs)
+    (λ c κs. search needs) (λ c. search needs)
     mul-if1
     shared-slice-read-if1
     name-requires

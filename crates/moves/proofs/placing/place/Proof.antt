@@ -97,8 +97,6 @@ place-spec =
     seat-requires
     (λ c κs. search needs)
     head-with-requires
-    (λ c. search needs)
-    (λ c. search needs)
-    (λ c. search needs)
+    (λ c. search needs) (λ c. search needs) (λ c. search needs)
     same-length-4
     returns)
