@@ -11,6 +11,7 @@ use Rattle.page.specs.Record.{stale}
 use Rattle.page.specs.declared.cache.PageCache.{PageCache}
 use Rattle.page.specs.declared.entry.PageCacheEntry.{PageCacheEntry}
 use Rattle.pool.specs.Slots.{blank, entries}
+use Rattle.sorted_index.specs.declared.search.By.the-variants.{Key}
 use Rattle.model.specs.Cache.{Cache}
 use Rattle.model.specs.Call.{Outcome}
 use Rattle.model.specs.Row.{Page, Entry, find}
@@ -21,7 +22,7 @@ use Rattle.memory.specs.Holds.{Holds}
 use Rattle.memory.proofs.OnceKept.{holds-held, holds-fits}
 use Rattle.answer.specs.declared.answered.Answered.{Answered}
 use Rattle.answer.proofs.Steps.{comes-as, wrote-none, unlisted-comes}
-use Rattle.moves.specs.Moves.{KeyAt, KeyGap, Replaceable}
+use Rattle.moves.specs.Moves.{KeyAt, GapIn, Replaceable}
 use Rattle.moves.proofs.Search.{handle-miss}
 use Rattle.moves.proofs.Removal.{slot-inside}
 use Rattle.deletion.proofs.Deleting.{stored-is}
@@ -63,7 +64,7 @@ module _ (asked : NewPage) where
 
 -- ── the key is absent ────────────────────────────────────────────────────────
 module _ {m : Memory} {head : PageCache} {list : List ℕ} {asked : NewPage} where
-  pub absent-admissible : {at gap : ℕ} → Insertable m head list gap asked → KeyGap (m .slots) (m .by-key) (head .held) (asked .key .0) at
+  pub absent-admissible : {at gap : ℕ} → Insertable m head list gap asked → GapIn Key (m .slots) (m .by-key) (head .held) (asked .key .0) at
       → Admissible m head list 0 (record { key = at; handle = gap }) asked
   absent-admissible w absent = record {
     cache = w .cache;

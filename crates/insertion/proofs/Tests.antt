@@ -9,6 +9,7 @@ use borrow.Author.Tests.{lt-ltb, le-ltb}
 use Rattle.page.specs.Record.{allFlags}
 use Rattle.page.specs.declared.cache.PageCache.{PageCache}
 use Rattle.free_marks.specs.Marks.{Wide}
+use Rattle.sorted_index.specs.declared.search.By.the-variants.{Handle}
 use Rattle.model.specs.Cache.{Cache}
 use Rattle.model.specs.Call.{Call, insert}
 use Rattle.model.specs.Rules.{onInsert}
@@ -21,7 +22,7 @@ use Rattle.answer.specs.Answer.{plainly, MatchesOutcome}
 use Rattle.answer.specs.declared.answer.Answer.the-variants.{BadRecord, ShortList, HandleElsewhere}
 use Rattle.answer.specs.declared.answered.Answered.{Answered}
 use Rattle.answer.proofs.Steps.{step-acts, step-bad-record, step-short-list, step-elsewhere, list-short, list-long, comes-as, plain-comes}
-use Rattle.moves.specs.Moves.{KeyAt, HandleGap}
+use Rattle.moves.specs.Moves.{KeyAt, GapIn}
 use Rattle.insertion.specs.declared.mode.NewPage.{NewPage}
 use Rattle.insertion.specs.Mode.{insertionOf}
 use Rattle.insertion.specs.Renew.{Free, KeyFound}
@@ -56,7 +57,7 @@ module _ (asked : NewPage) {list : List ℕ} {m : Memory} {head : PageCache} {c 
 module _ {m : Memory} {head : PageCache} {list : List ℕ} {asked : NewPage} (good : asked .page .flags ≤ allFlags)
     (long : head .held ≤ length list) (wide : Wide (m .slots)) (small : head .estimate < 2 ^ 32) where
   -- the handle stands nowhere
-  pub call-insertable : {gap : ℕ} → HandleGap (m .slots) (m .by-handle) (head .held) (asked .handle .0) gap → Sound m head
+  pub call-insertable : {gap : ℕ} → GapIn Handle (m .slots) (m .by-handle) (head .held) (asked .handle .0) gap → Sound m head
       → Insertable m head list gap asked
   call-insertable nowhere s = record {
     cache = s .cache;

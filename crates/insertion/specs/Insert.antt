@@ -5,6 +5,7 @@ use Prim.Native.Nat.{ℕ, _≤_}
 use lib.ListN.{length}
 use Rattle.page.specs.Record.{allFlags}
 use Rattle.page.specs.declared.cache.PageCache.{PageCache}
+use Rattle.sorted_index.specs.declared.search.By.the-variants.{Handle}
 use Rattle.model.specs.Cache.{Cache}
 use Rattle.model.specs.Limits.{CacheInvariant}
 use Rattle.model.specs.Row.{Entry}
@@ -13,7 +14,7 @@ use Rattle.memory.specs.Memory.{Memory}
 use Rattle.memory.specs.Holds.{Holds}
 use Rattle.answer.specs.Answer.{MatchesOutcome}
 use Rattle.answer.specs.declared.answered.Answered.{Answered}
-use Rattle.moves.specs.Moves.{StandsAt, HandleGap}
+use Rattle.moves.specs.Moves.{StandsAt, GapIn}
 use Rattle.insertion.specs.declared.mode.NewPage.{NewPage}
 use Rattle.insertion.specs.Mode.{insertionOf}
 use Rattle.insertion.specs.Renew.{Free}
@@ -31,7 +32,7 @@ pub record Insertable (m : Memory) (head : PageCache) (list : List ℕ) (gap : �
   pub cache : Cache
   pub holds : Holds m head cache
   pub kept : CacheInvariant cache
-  pub nowhere : HandleGap (m .slots) (m .by-handle) (head .held) (asked .handle .0) gap
+  pub nowhere : GapIn Handle (m .slots) (m .by-handle) (head .held) (asked .handle .0) gap
   pub flags : asked .page .flags ≤ allFlags
   pub long : head .held ≤ length list
 

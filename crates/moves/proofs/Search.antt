@@ -16,9 +16,10 @@ use Rattle.page.specs.declared.names.Slot.{Slot}
 use Rattle.page.proofs.Each.{each-weaken}
 use Rattle.pool.specs.Slots.{blank, entries}
 use Rattle.ring_links.specs.Ring.{has}
-use Rattle.sorted_index.specs.Names.{names}
+use Rattle.sorted_index.specs.Names.{nameOf, names}
 use Rattle.sorted_index.specs.Index.{Hit}
-use Rattle.sorted_index.specs.Listed.{Absent, GapFor}
+use Rattle.sorted_index.specs.Listed.{Listed, Absent, GapFor}
+use Rattle.sorted_index.specs.declared.search.By.{By}
 use Rattle.sorted_index.specs.declared.search.By.the-variants.{Key, Handle}
 use Rattle.sorted_index.proofs.Names.{name-at}
 use Rattle.sorted_index.proofs.Listed.{hit-seat, hit-is, miss-absent}
@@ -37,7 +38,7 @@ use Rattle.moves.specs.declared.finding.Seat.{Seat}
 use Rattle.moves.specs.declared.finding.Seat.the-variants as variants
 use Rattle.moves.specs.declared.finding.HandleSeat.{HandleSeat}
 use Rattle.moves.specs.declared.finding.HandleSeat.the-variants.{Elsewhere, UnderKey, Nowhere}
-use Rattle.moves.specs.Moves.{KeyAt, KeyGap, SeatIs, SeatGap, Seats, HandleGap, HandleIs, HandleSeatGap, SeatsHandle, NewNames, GapsOf}
+use Rattle.moves.specs.Moves.{KeyAt, GapIn, SeatIs, SeatGap, Seats, HandleIs, HandleSeatGap, SeatsHandle, NewNames, GapsOf}
 
 -- ── a handle under another key ───────────────────────────────────────────────
 module _ (key handle : ℕ) where
@@ -81,25 +82,28 @@ module _ {m : Memory} {head : PageCache} {c : Cache} {n : ℕ} (H : Holds m head
   pub key-hit : {key at : ℕ} → Hit (names Key (entries (m .slots))) (m .by-key) n key at → KeyAt (c .row) key (getD (m .by-key) at 0)
   key-hit {key} {at} hit = seat-key _ (hit-seat (H .keys) seats-held hit) (sym (name-at Key es (getD (m .by-key) at 0)) ∙ hit .same)
 
-  -- a name that has a gap is new
-  key-new : {key gap : ℕ} → KeyGap (m .slots) (m .by-key) n key gap → Each (λ x. key ≢ x .page .key) (c .row)
-  key-new {key} miss =
-      subst (Each (λ x. key ≢ x .page .key)) (sym (H .row))
-      (seat-each (λ x. key ≢ x .page .key) es (H .seats) (λ k h q. miss-absent (H .keys) seats-held miss k h (name-at Key es k ∙ sym q)))
+  -- a name that has a gap is no seat's, and so no entry's
+  gap-new : (by : By) {order : List ℕ} {name gap : ℕ} → Listed (names by es) order (H .seats) → GapIn by (m .slots) order n name gap
+      → (k : ℕ) → has k (H .seats) ≡ true → name ≢ nameOf by (getD es k blank)
+  gap-new by listed miss k h q = miss-absent listed seats-held miss k h (name-at by es k ∙ sym q)
 
-  pub handle-new : {handle gap : ℕ} → HandleGap (m .slots) (m .by-handle) n handle gap → Each (λ x. handle ≢ x .page .handle) (c .row)
+  key-new : {key gap : ℕ} → GapIn Key (m .slots) (m .by-key) n key gap → Each (λ x. key ≢ x .page .key) (c .row)
+  key-new {key} miss =
+      subst (Each (λ x. key ≢ x .page .key)) (sym (H .row)) (seat-each (λ x. key ≢ x .page .key) es (H .seats) (gap-new Key (H .keys) miss))
+
+  pub handle-new : {handle gap : ℕ} → GapIn Handle (m .slots) (m .by-handle) n handle gap → Each (λ x. handle ≢ x .page .handle) (c .row)
   handle-new {handle} miss =
       subst (Each (λ x. handle ≢ x .page .handle)) (sym (H .row))
-      (seat-each (λ x. handle ≢ x .page .handle) es (H .seats) (λ k h q. miss-absent (H .handles) seats-held miss k h (name-at Handle es k ∙ sym q)))
+      (seat-each (λ x. handle ≢ x .page .handle) es (H .seats) (gap-new Handle (H .handles) miss))
 
-  pub key-miss : {key gap : ℕ} → KeyGap (m .slots) (m .by-key) n key gap → find key (c .row) ≡ none
+  pub key-miss : {key gap : ℕ} → GapIn Key (m .slots) (m .by-key) n key gap → find key (c .row) ≡ none
   key-miss {key} miss = none-find key (c .row) (key-new miss)
 
   module _ (key handle : ℕ) where
     each-fits : ((k : ℕ) → has k (H .seats) ≡ true → Fits key handle (seen k (getD es k blank))) → underOther key handle (c .row) ≡ false
     each-fits at-seat = each-under key handle (c .row) (rw (H .row) (seat-each (Fits key handle) es (H .seats) at-seat))
 
-    pub handle-miss : {gap : ℕ} → HandleGap (m .slots) (m .by-handle) n handle gap → underOther key handle (c .row) ≡ false
+    pub handle-miss : {gap : ℕ} → GapIn Handle (m .slots) (m .by-handle) n handle gap → underOther key handle (c .row) ≡ false
     handle-miss miss = each-fits (λ k h q. absurd (miss-absent (H .handles) seats-held miss k h (name-at Handle es k ∙ q)))
 
     -- the handle is one entry's alone, so that entry's key tells
@@ -164,7 +168,7 @@ module _ {by-key slots : List ℕ} {held key : ℕ} {r : Seat} (s : Seats by-key
     pub seat-absent : {gap : ℕ} → r ≡ variants.Absent gap → find key (c .row) ≡ none
     seat-absent q = subst (SeatIs (c .row) key) q (s .seat by-handle marks head c H h)
 
-  pub seat-gap : {gap : ℕ} → r ≡ variants.Absent gap → KeyGap slots by-key held key gap
+  pub seat-gap : {gap : ℕ} → r ≡ variants.Absent gap → GapIn Key slots by-key held key gap
   seat-gap q = subst (SeatGap slots by-key held key) q (s .gap)
 
 module _ {by-handle slots : List ℕ} {held key handle : ℕ} {r : HandleSeat} (s : SeatsHandle by-handle slots held key handle r) where
@@ -175,5 +179,5 @@ module _ {by-handle slots : List ℕ} {held key handle : ℕ} {r : HandleSeat} (
     pub seat-under : {at : Slot} → r ≡ UnderKey at → KeyAt (c .row) key (at .0) × (underOther key handle (c .row) ≡ false)
     seat-under q = subst (HandleIs (c .row) key handle) q (s .seat by-key marks head c H h)
 
-  pub seat-nowhere : {gap : ℕ} → r ≡ Nowhere gap → HandleGap slots by-handle held handle gap
+  pub seat-nowhere : {gap : ℕ} → r ≡ Nowhere gap → GapIn Handle slots by-handle held handle gap
   seat-nowhere q = subst (HandleSeatGap slots by-handle held handle) q (s .gap)

@@ -15,6 +15,7 @@ use Rattle.pool.specs.Slots.{entries}
 use Rattle.ring_links.specs.Links.{Linkable}
 use Rattle.sorted_index.specs.Names.{names}
 use Rattle.sorted_index.specs.Index.{Miss}
+use Rattle.sorted_index.specs.declared.search.By.{By}
 use Rattle.sorted_index.specs.declared.search.By.the-variants.{Key, Handle}
 use Rattle.model.specs.Cache.{Cache, heldIn, newPage, enter, leave, touch, rewrite, replace}
 use Rattle.model.specs.Row.{Entry, Row, Each, find}
@@ -43,13 +44,13 @@ abbrev pub SeatIs : Row → ℕ → Seat → Type 0
 SeatIs row key (At s) = KeyAt row key (s .0)
 SeatIs row key (Absent gap) = find key row ≡ none
 
--- the gap that an absent key would go into
-abbrev pub KeyGap : (slots by-key : List ℕ) (held key gap : ℕ) → Type 0
-KeyGap slots by-key held key gap = Miss (names Key (entries slots)) by-key held key gap
+-- the gap that a name which no slot has would go into, in the index that goes by such names
+abbrev pub GapIn : By → (slots order : List ℕ) (held name gap : ℕ) → Type 0
+GapIn by slots order held name gap = Miss (names by (entries slots)) order held name gap
 
 abbrev pub SeatGap : (slots by-key : List ℕ) (held key : ℕ) → Seat → Type 0
 SeatGap slots by-key held key (At s) = Unit
-SeatGap slots by-key held key (Absent gap) = KeyGap slots by-key held key gap
+SeatGap slots by-key held key (Absent gap) = GapIn Key slots by-key held key gap
 
 -- the answer is right for every cache of `held` pages that a memory with these slots and this index by key holds
 pub record Seats (by-key slots : List ℕ) (held key : ℕ) (r : Seat) : Type 0 where
@@ -63,14 +64,10 @@ HandleIs row key handle Elsewhere = underOther key handle row ≡ true
 HandleIs row key handle (UnderKey s) = KeyAt row key (s .0) × (underOther key handle row ≡ false)
 HandleIs row key handle (Nowhere gap) = Each (λ x. handle ≢ x .page .handle) row
 
--- the gap that an absent handle would go into
-abbrev pub HandleGap : (slots by-handle : List ℕ) (held handle gap : ℕ) → Type 0
-HandleGap slots by-handle held handle gap = Miss (names Handle (entries slots)) by-handle held handle gap
-
 abbrev pub HandleSeatGap : (slots by-handle : List ℕ) (held handle : ℕ) → HandleSeat → Type 0
 HandleSeatGap slots by-handle held handle Elsewhere = Unit
 HandleSeatGap slots by-handle held handle (UnderKey s) = Unit
-HandleSeatGap slots by-handle held handle (Nowhere gap) = HandleGap slots by-handle held handle gap
+HandleSeatGap slots by-handle held handle (Nowhere gap) = GapIn Handle slots by-handle held handle gap
 
 -- the same for an index by handle
 pub record SeatsHandle (by-handle slots : List ℕ) (held key handle : ℕ) (r : HandleSeat) : Type 0 where
@@ -106,8 +103,8 @@ pub record Unseated (slots by-key by-handle : List ℕ) (head : PageCache) (key 
 
 -- the gaps that they go into
 pub record GapsOf (slots by-key by-handle : List ℕ) (held key handle : ℕ) (gaps : Gaps) : Type 0 where
-  pub of-key : KeyGap slots by-key held key (gaps .key)
-  pub of-handle : HandleGap slots by-handle held handle (gaps .handle)
+  pub of-key : GapIn Key slots by-key held key (gaps .key)
+  pub of-handle : GapIn Handle slots by-handle held handle (gaps .handle)
 
 -- the memory holds a cache which has a slot to spare, and the gaps are those of the key and the handle; the record is good
 pub record Placeable (m : Memory) (head : PageCache) (gaps : Gaps) (key handle : ℕ) (page : PageRecord) : Type 0 where
