@@ -1,10 +1,12 @@
--- The digits of a number to the base 2: `|`, `&` and `!` work digit by digit, a power of two has a single one, and a
--- number is known by its digits. Each law goes from a number to its half.
+-- The digits of a number to the base 2: `|`, `&` and `!` work digit by digit, a power of two has a single one, its trailing
+-- zeros lead to its lowest 1, and a number is known by its digits. Each law goes from a number to its half.
 use mathlib.Core.Path.{_≡_, refl, sym, ap, _∙_, subst}
 use Prim.Native.Nat.{ℕ, zero, suc, _*_, _+_, _-_, _/_, _%_, _^_, _≤_, _<_, min, max, suc-le-suc}
 use native.Mathlib.Nat.{div-div-eq-div-mul, div-one, div-lt-iff-lt-mul, zero-div, zero-lt-suc, pow-suc, pow-succ', le-of-suc-le-suc}
 use native.Mathlib.Omega.{arith}
+use lib.Arith.{lt-one}
 use lib.Bits.{bitOr, bitAnd, or-step, or-shr, and-step, and-shr}
+use lib.Count.{under, trailingZeros}
 
 -- the digit that stands for 2 ^ i
 abbrev pub digit : ℕ → ℕ → ℕ
@@ -95,3 +97,33 @@ digits-once (suc d) x y h k e =
   where
     from-half : x / 2 ≡ y / 2 → x % 2 ≡ y % 2 → x ≡ y
     from-half p q = omega arith
+
+-- ── the lowest 1 ─────────────────────────────────────────────────────────────
+-- digit i of the d digits of x is 1, and no lower one is
+pub record LowestOne (d x i : ℕ) : Type 0 where
+  pub inside : i < d
+  pub one : digit x i ≡ 1
+  pub below : (j : ℕ) → j < i → digit x j ≡ 0
+
+-- it is the lowest 1 of the half too, one place lower
+lowest-up : (d x i : ℕ) → x % 2 ≡ 0 → LowestOne d (x / 2) i → LowestOne (suc d) x (suc i)
+lowest-up d x i even l = record {
+  inside = suc-le-suc (l .inside);
+  one = digit-up x i ∙ l .one;
+  below = lower;
+}
+  where
+    lower : (j : ℕ) → j < suc i → digit x j ≡ 0
+    lower zero h = digit-low x ∙ even
+    lower (suc j) h = digit-up x j ∙ l .below j (le-of-suc-le-suc h)
+
+-- the law of trailing zeros: in a number of d digits that isn't 0 they are the place of the lowest 1
+pub trailing : (d x : ℕ) → x < 2 ^ d → (x ≡ 0 → ⊥) → LowestOne d x (trailingZeros d x)
+unfolding trailingZeros
+trailing zero x h ne = absurd (ne (lt-one h))
+trailing (suc d) x h ne = go (x % 2) refl (trailing d (x / 2) (half-lt d x h))
+  where
+    go : (low : ℕ) → x % 2 ≡ low → ((x / 2 ≡ 0 → ⊥) → LowestOne d (x / 2) (trailingZeros d (x / 2)))
+        → LowestOne (suc d) x (under low (trailingZeros d (x / 2)))
+    go zero e upper = lowest-up d x _ e (upper (λ z. ne (omega arith)))
+    go (suc b) e upper = record { inside = omega arith; one = digit-low x ∙ omega arith; below = λ j l. absurd (omega arith) }

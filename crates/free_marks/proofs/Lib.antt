@@ -1,2 +1,4 @@
 pub mod Digits
 pub mod Marking
+pub mod Searching
+pub mod Counting

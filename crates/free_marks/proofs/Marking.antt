@@ -1,19 +1,16 @@
--- A mark is a digit of a word: writing one keeps the others, a walk from slot 0 comes to the lowest free slot, and words
--- of 64 bits are known by their marks.
-use mathlib.Core.Path.{_≡_, ap, _∙_}
-use mathlib.Core.Logic.{⊎-elim}
+-- A mark is a digit of a word: writing one keeps the others, and words of 64 bits are known by their marks.
+use mathlib.Core.Path.{_≡_, sym, ap, _∙_}
 use mathlib.Core.List.{List}
-use Prim.Native.Nat.{ℕ, _+_, _*_, _-_, _/_, _%_, _^_, _≤_, _<_, min, max}
-use native.Mathlib.Nat.{one-mul, eq-or-lt-of-le, le-of-suc-le-suc}
-use native.Mathlib.Numerals.{add-one}
-use native.Mathlib.Decide.{ℕ-discrete, decLt}
+use Prim.Native.Nat.{ℕ, _+_, _*_, _-_, _/_, _%_, _^_, _<_, min, max}
+use native.Mathlib.Nat.{one-mul}
+use native.Mathlib.Decide.{ℕ-discrete}
 use native.Mathlib.Omega.{arith}
 use lib.Bits.{bitOr, bitAnd}
 use lib.Pow.{shl-exact}
-use lib.ListN.{length, getD, set, length-set, List·getD-eq-default}
+use lib.ListN.{length, getD, set, length-set}
 use lib.Seq.{getD-set-same, getD-set-other, ext-getD}
-use Rattle.free_marks.specs.Marks.{bitAt, Wide, MarkedAs, SomeFree, LowestFree}
-use Rattle.free_marks.proofs.Digits.{digit, digit-of-none, or-digit, and-digit, pow-here, pow-else, not-digit, digits-once}
+use Rattle.free_marks.specs.Marks.{bitAt, Wide, MarkedAs}
+use Rattle.free_marks.proofs.Digits.{digit, or-digit, and-digit, pow-here, pow-else, not-digit, digits-once}
 
 -- ── a mark is written ────────────────────────────────────────────────────────
 module _ (mark : ℕ) (m : List ℕ) (s : ℕ) (inside : s / 64 < length m) (word : ℕ)
@@ -71,49 +68,6 @@ module _ (m : List ℕ) (s : ℕ) (inside : s / 64 < length m) where
       (and-digit old (2 ^ 64 - 1 - one) (s % 64) ∙ ap (min (digit old (s % 64))) (not-digit 64 one (s % 64) one-fits (omega arith) ∙ ap (λ (x : ℕ). 1 - x) one-here) ∙ min-none _)
       (λ i h ne. and-digit old (2 ^ 64 - 1 - one) i ∙ ap (min (digit old i)) (not-digit 64 one i one-fits h ∙ ap (λ (x : ℕ). 1 - x) (one-else i ne)) ∙ min-one _)
 
--- ── the lowest free slot ─────────────────────────────────────────────────────
--- no mark is both 0 and 1
-pub clash : {x : ℕ} → x ≡ 0 → x ≡ 1 → ⊥
-clash p q = omega arith
-
--- a mark of 1 stands in a word that is there
-pub free-inside : (m : List ℕ) (k : ℕ) → bitAt m k ≡ 1 → k / 64 < length m
-free-inside m k e = go (decLt (k / 64) (length m))
-  where
-    go : Dec (k / 64 < length m) → k / 64 < length m
-    go (yes h) = h
-    go (no h) = absurd (clash (ap (λ (x : ℕ). digit x (k % 64)) (List·getD-eq-default m 0 (omega arith)) ∙ digit-of-none (k % 64)) e)
-
--- no slot below s is free
-pub record HeldBelow (m : List ℕ) (s : ℕ) : Type 0 where
-  pub each : (k : ℕ) → k < s → bitAt m k ≡ 0
-
-pub below-none : {m : List ℕ} → HeldBelow m 0
-below-none = record { each = λ k h. absurd (omega arith) }
-
-module _ {m : List ℕ} {s : ℕ} (below : HeldBelow m s) where
-  pub below-more : (bitAt m s ≡ 1 → ⊥) → HeldBelow m (s + 1)
-  below-more ne = record {
-    each = λ k h. ⊎-elim (λ (e : k ≡ s). rw e (zero-of (getD m (s / 64) 0 / 2 ^ (s % 64)) ne)) (λ (l : k < s). below .each k l) (eq-or-lt-of-le (le-of-suc-le-suc (rw add-one at h)));
-  }
-    where
-      zero-of : (x : ℕ) → (x % 2 ≡ 1 → ⊥) → x % 2 ≡ 0
-      zero-of x ne = omega arith
-
-  -- a free slot is not below
-  pub below-not : {k : ℕ} → bitAt m k ≡ 1 → s ≤ k
-  below-not {k} e = go (decLt k s)
-    where
-      go : Dec (k < s) → s ≤ k
-      go (yes h) = absurd (clash (below .each k h) e)
-      go (no h) = omega arith
-
-  pub below-inside : SomeFree m → s / 64 < length m
-  below-inside some = omega (arith, free-inside m (some .slot) (some .free), below-not (some .free))
-
-  pub below-found : bitAt m s ≡ 1 → LowestFree m s
-  below-found free = record { free = free; least = below .each }
-
 -- ── the words of the marks ───────────────────────────────────────────────────
 word-of : (w i : ℕ) → i < 64 → (w * 64 + i) / 64 ≡ w
 word-of w i h = omega arith
@@ -121,8 +75,16 @@ word-of w i h = omega arith
 digit-of : (w i : ℕ) → i < 64 → (w * 64 + i) % 64 ≡ i
 digit-of w i h = omega arith
 
+-- the marks of a word are its digits
+pub word-marks : (m : List ℕ) (w i : ℕ) → i < 64 → bitAt m (w * 64 + i) ≡ digit (getD m w 0) i
+word-marks m w i h = rw (word-of w i h, digit-of w i h)
+
 -- words with equal marks are equal
 pub marks-once : (m m′ : List ℕ) → length m ≡ length m′ → Wide m → Wide m′ → ((k : ℕ) → bitAt m k ≡ bitAt m′ k) → m ≡ m′
 marks-once m m′ long wide wide′ same =
     ext-getD 0 m m′ long (λ w _. digits-once 64 (getD m w 0) (getD m′ w 0) (wide .each w) (wide′ .each w)
-    (λ i h. rw (word-of w i h, digit-of w i h) at (same (w * 64 + i))))
+    (λ i h. sym (word-marks m w i h) ∙ same (w * 64 + i) ∙ word-marks m′ w i h))
+
+-- no mark is both 0 and 1
+pub clash : {x : ℕ} → x ≡ 0 → x ≡ 1 → ⊥
+clash p q = omega arith
