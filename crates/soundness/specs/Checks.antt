@@ -59,11 +59,6 @@ unfoldable pub countBelow : ℕ → (ℕ → Bool) → ℕ
 countBelow zero test = zero
 countBelow (suc k) test = tick (test k) (countBelow k test)
 
--- what counting the marks word by word requires
-pub record Countable (marks : List ℕ) (size : ℕ) : Type 0 where
-  pub fit : MarksFit marks size
-  pub beyond : Beyond marks size
-
 -- the unmarked slots are as many as are held
 pub record Counted (marks : List ℕ) (size held : ℕ) : Type 0 where
   pub beyond : Beyond marks size
