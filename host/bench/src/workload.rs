@@ -14,13 +14,26 @@ pub enum Shape {
     Delete,
     /// Insertions into a full cache of dirty pages: each is a sweep of four rounds that takes none.
     Look,
+    /// In a full cache the page in slot 0 goes and comes again, over and over: half deletions, half insertions. Its key is the highest,
+    /// so that nothing moves in a sorted index.
+    FirstSlot,
+    /// The same with the page in the last slot, before which no slot is free.
+    LastSlot,
     /// Lookups over a quarter more keys than fit, each miss followed by an insertion, and a deletion in twenty calls.
     Mixed,
 }
 
 impl Shape {
-    pub const ALL: [Shape; 6] =
-        [Shape::Lookup, Shape::InsertRoom, Shape::InsertEvict, Shape::Delete, Shape::Look, Shape::Mixed];
+    pub const ALL: [Shape; 8] = [
+        Shape::Lookup,
+        Shape::InsertRoom,
+        Shape::InsertEvict,
+        Shape::Delete,
+        Shape::FirstSlot,
+        Shape::LastSlot,
+        Shape::Look,
+        Shape::Mixed,
+    ];
 
     fn name(self) -> &'static str {
         match self {
@@ -28,6 +41,8 @@ impl Shape {
             Shape::InsertRoom => "insert with room",
             Shape::InsertEvict => "insert with eviction",
             Shape::Delete => "delete",
+            Shape::FirstSlot => "delete or insert, first slot",
+            Shape::LastSlot => "delete or insert, last slot",
             Shape::Look => "one look of a sweep",
             Shape::Mixed => "mixed",
         }
@@ -96,6 +111,7 @@ impl Load {
         let keys = chance.shuffled((2..n + 2).collect());
         let loaded = Page::LOADED;
         let fill = |flags| keys.iter().map(|&key| insertion(key, flags)).collect::<Vec<_>>();
+        let again = || [by_key(Operation::Delete, n + 1), insertion(n + 1, loaded)].repeat(5_000);
         let (held, calls) = match shape {
             Shape::Lookup => {
                 (fill(loaded), (0..20_000).map(|_| by_key(Operation::Get, 2 + chance.below(pages) as u32)).collect())
@@ -106,6 +122,8 @@ impl Load {
                 let order = chance.shuffled(keys.clone());
                 (fill(loaded), order.into_iter().map(|key| by_key(Operation::Delete, key)).collect())
             }
+            Shape::FirstSlot => ([n + 1].into_iter().chain(2..n + 1).map(|key| insertion(key, loaded)).collect(), again()),
+            Shape::LastSlot => ((2..n + 2).map(|key| insertion(key, loaded)).collect(), again()),
             Shape::Look => (fill(loaded | Page::DIRTY), (0..20).map(|i| insertion(n + 2 + i, loaded)).collect()),
             Shape::Mixed => (fill(loaded), mixed(&mut chance, pages, &fill(loaded))),
         };
