@@ -8,7 +8,7 @@ use native.Mathlib.Nat.{not-suc-le-zero}
 use native.Mathlib.Decide.{ℕ-discrete}
 use native.Mathlib.Omega.{arith}
 use lib.Pow.{pow-pos, ones-lt, shr-lt}
-use lib.ListN.{length, getD, set, drop, replicate, length-map, length-append, length-replicate, length-set, getD-replicate, length-drop, List·getD-append, List·getD-eq-default}
+use lib.ListN.{length, getD, set, drop, replicate, length-map, length-append, length-replicate, length-set, getD-replicate, length-drop, List·getD-append}
 use lib.Seq.{getD-append-add}
 use borrow.Author.Fill.{fill-none, fill-more}
 use Rattle.page.specs.Cache.{maxSlots, created}
@@ -18,8 +18,8 @@ use Rattle.ring_links.specs.Links.{RingOf}
 use Rattle.free_marks.specs.Marks.{bitAt}
 use Rattle.pool.specs.Slots.{blank, decode, entries}
 use Rattle.ring_links.proofs.Columns.{next-at, prev-at}
-use Rattle.free_marks.proofs.Digits.{digit, digit-of-none, not-digit}
-use Rattle.free_marks.proofs.Marking.{shifted}
+use Rattle.free_marks.proofs.Digits.{digit, digit-shifted, digit-of-none, not-digit}
+use Rattle.free_marks.proofs.Marking.{bit-past, shifted}
 use Rattle.sorted_index.specs.Listed.{Listed}
 use Rattle.sorted_index.proofs.Ascending.{index-places}
 use Rattle.model.specs.Cache.{fresh}
@@ -29,7 +29,6 @@ use Rattle.soundness.specs.Checks.{Agreeing, MarksFit}
 use Rattle.creating.specs.Creation.{lastMarks, freeMarks, freshMemory, CreatedWell, codeOf, headOf, Given, done, too-large, bad-lengths, Creates}
 use Rattle.creating.specs.declared.creating.Created.{Created}
 use Rattle.creating.specs.declared.creating.Created.the-variants.{Done, BadLengths, TooLarge}
-use Rattle.soundness.proofs.Bits.{digit-shifted}
 
 -- ── a loop that fills a slice ────────────────────────────────────────────────
 -- the first i places hold x, and the others what they held
@@ -117,7 +116,7 @@ module _ (size : ℕ) where
     where
       go : Dec (k / 64 ≡ size / 64) → bitAt (freeMarks size) k ≡ 0
       go (yes e) = ap (λ (w : ℕ). digit (getD (freeMarks size) w 0) (k % 64)) e ∙ ap (λ (x : ℕ). digit x (k % 64)) word-last ∙ ones-above (size % 64) (k % 64) (omega arith)
-      go (no ne) = ap (λ (x : ℕ). digit x (k % 64)) (List·getD-eq-default (freeMarks size) 0 (omega (arith, free-long))) ∙ digit-of-none (k % 64)
+      go (no ne) = bit-past (freeMarks size) k (omega (arith, free-long))
 
 -- so 1 can be subtracted from what the code shifts
 pub shifted-some : (b : ℕ) → b < 64 → 1 ≤ 1 * 2 ^ b % 2 ^ 64

@@ -19,7 +19,7 @@ unfolding freeBelow
 free-next m k = refl
 
 -- at most all are free
-free-limit : (m : List ℕ) (k : ℕ) → freeBelow m k ≤ k
+pub free-limit : (m : List ℕ) (k : ℕ) → freeBelow m k ≤ k
 unfolding freeBelow
 free-limit m zero = omega arith
 free-limit m (suc k) = omega (arith, free-limit m k)

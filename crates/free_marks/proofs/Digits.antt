@@ -7,6 +7,7 @@ use native.Mathlib.Omega.{arith}
 use lib.Arith.{lt-one}
 use lib.Bits.{bitOr, bitAnd, or-step, or-shr, and-step, and-shr}
 use lib.Count.{under, trailingZeros}
+use lib.Pow.{shr-shr}
 
 -- the digit that stands for 2 ^ i
 abbrev pub digit : ℕ → ℕ → ℕ
@@ -18,6 +19,10 @@ digit-low x = ap (λ (y : ℕ). y % 2) (div-one x)
 -- a digit above the lowest is a digit of the half
 pub digit-up : (x i : ℕ) → digit x (suc i) ≡ digit (x / 2) i
 digit-up x i = ap (λ (y : ℕ). y % 2) (ap (λ (y : ℕ). x / y) (pow-succ' 2 i) ∙ sym (div-div-eq-div-mul x 2 (2 ^ i)))
+
+-- a digit above b is one of what is left after a shift by b
+pub digit-shifted : (x b i : ℕ) → digit (x / 2 ^ b) i ≡ digit x (b + i)
+digit-shifted x b i = ap (λ (y : ℕ). y % 2) (shr-shr x b i)
 
 pub digit-of-none : (i : ℕ) → digit 0 i ≡ 0
 digit-of-none i = ap (λ (y : ℕ). y % 2) (zero-div (2 ^ i))

@@ -1,16 +1,35 @@
 -- A mark is a digit of a word: writing one keeps the others, and words of 64 bits are known by their marks.
 use mathlib.Core.Path.{_≡_, sym, ap, _∙_}
 use mathlib.Core.List.{List}
-use Prim.Native.Nat.{ℕ, _+_, _*_, _-_, _/_, _%_, _^_, _<_, min, max}
+use Prim.Native.Nat.{ℕ, _+_, _*_, _-_, _/_, _%_, _^_, _≤_, _<_, min, max}
 use native.Mathlib.Nat.{one-mul}
 use native.Mathlib.Decide.{ℕ-discrete}
 use native.Mathlib.Omega.{arith}
 use lib.Bits.{bitOr, bitAnd}
 use lib.Pow.{shl-exact}
-use lib.ListN.{length, getD, set, length-set}
+use lib.ListN.{length, getD, set, length-set, List·getD-eq-default}
 use lib.Seq.{getD-set-same, getD-set-other, ext-getD}
 use Rattle.free_marks.specs.Marks.{bitAt, Wide, MarkedAs}
-use Rattle.free_marks.proofs.Digits.{digit, or-digit, and-digit, pow-here, pow-else, not-digit, digits-once}
+use Rattle.free_marks.proofs.Digits.{digit, digit-of-none, or-digit, and-digit, pow-here, pow-else, not-digit, digits-once}
+
+-- ── one mark ─────────────────────────────────────────────────────────────────
+-- it is 0 or 1, and not both
+pub bit-limit : (m : List ℕ) (k : ℕ) → bitAt m k ≤ 1
+bit-limit m k = omega arith
+
+pub bit-one : (m : List ℕ) (k : ℕ) → (bitAt m k ≡ 0 → ⊥) → bitAt m k ≡ 1
+bit-one m k ne = omega arith
+
+pub clash : {x : ℕ} → x ≡ 0 → x ≡ 1 → ⊥
+clash p q = omega arith
+
+-- a word of 0 has none of 1
+pub bit-none : (m : List ℕ) (k : ℕ) → getD m (k / 64) 0 ≡ 0 → bitAt m k ≡ 0
+bit-none m k e = ap (λ (x : ℕ). digit x (k % 64)) e ∙ digit-of-none (k % 64)
+
+-- nor has a word that isn't there
+pub bit-past : (m : List ℕ) (k : ℕ) → length m ≤ k / 64 → bitAt m k ≡ 0
+bit-past m k h = bit-none m k (List·getD-eq-default m 0 h)
 
 -- ── a mark is written ────────────────────────────────────────────────────────
 module _ (mark : ℕ) (m : List ℕ) (s : ℕ) (inside : s / 64 < length m) (word : ℕ)
@@ -84,7 +103,3 @@ pub marks-once : (m m′ : List ℕ) → length m ≡ length m′ → Wide m →
 marks-once m m′ long wide wide′ same =
     ext-getD 0 m m′ long (λ w _. digits-once 64 (getD m w 0) (getD m′ w 0) (wide .each w) (wide′ .each w)
     (λ i h. sym (word-marks m w i h) ∙ same (w * 64 + i) ∙ word-marks m′ w i h))
-
--- no mark is both 0 and 1
-pub clash : {x : ℕ} → x ≡ 0 → x ≡ 1 → ⊥
-clash p q = omega arith

@@ -1,13 +1,13 @@
 -- The first word that isn't 0 has the lowest free slot, and its trailing zeros say where.
-use mathlib.Core.Path.{_≡_, ap, _∙_}
+use mathlib.Core.Path.{_≡_, _∙_}
 use mathlib.Core.List.{List}
-use Prim.Native.Nat.{ℕ, _+_, _*_, _-_, _/_, _%_, _≤_, _<_}
+use Prim.Native.Nat.{ℕ, _+_, _*_, _-_, _/_, _≤_, _<_}
 use native.Mathlib.Decide.{decLt}
 use native.Mathlib.Omega.{arith}
-use lib.ListN.{length, getD, List·getD-eq-default}
+use lib.ListN.{length, getD}
 use Rattle.free_marks.specs.Marks.{bitAt, maxWords, SomeFree, LowestFree}
 use Rattle.free_marks.proofs.Digits.{digit, digit-of-none, LowestOne}
-use Rattle.free_marks.proofs.Marking.{word-marks, clash}
+use Rattle.free_marks.proofs.Marking.{bit-past, clash, word-marks}
 
 -- a slot from word w on and before place i of it is a lower place of it
 in-word : (w i k : ℕ) → (k < w * 64 → ⊥) → k < w * 64 + i → (j : ℕ) × (j < i) × (k ≡ w * 64 + j)
@@ -19,7 +19,7 @@ free-inside m k e = go (decLt (k / 64) (length m))
   where
     go : Dec (k / 64 < length m) → k / 64 < length m
     go (yes h) = h
-    go (no h) = absurd (clash (ap (λ (x : ℕ). digit x (k % 64)) (List·getD-eq-default m 0 (omega arith)) ∙ digit-of-none (k % 64)) e)
+    go (no h) = absurd (clash (bit-past m k (omega arith)) e)
 
 -- no slot of the words before w is free
 pub record HeldBefore (m : List ℕ) (w : ℕ) : Type 0 where

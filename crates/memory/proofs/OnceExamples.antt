@@ -12,7 +12,8 @@ use Rattle.page.specs.declared.entry.PageCacheEntry.{PageCacheEntry}
 use Rattle.free_marks.specs.Marks.{bitAt}
 use Rattle.ring_links.specs.Ring.{has}
 use Rattle.pool.specs.Slots.{decode, blank, entries}
-use Rattle.free_marks.proofs.Digits.{digit, digit-of-none, pow-else}
+use Rattle.free_marks.proofs.Digits.{digit, pow-else}
+use Rattle.free_marks.proofs.Marking.{bit-none}
 use Rattle.model.specs.Cache.{Cache}
 use Rattle.memory.specs.Memory.{Memory}
 use Rattle.memory.specs.Holds.{seen, Holds, Sound}
@@ -45,7 +46,7 @@ one-bit k h = go (ℕ-discrete (k / 64) 0)
 
     go : Dec (k / 64 ≡ 0) → bitAt (1 ∷ []) k ≡ 0
     go (yes e) = ap (λ (w : ℕ). digit (getD {A = ℕ} (1 ∷ []) w 0) (k % 64)) e ∙ pow-else 0 (k % 64) (λ q. omega arith)
-    go (no ne) = ap (λ (x : ℕ). digit x (k % 64)) (later (k / 64) ne) ∙ digit-of-none (k % 64)
+    go (no ne) = bit-none (1 ∷ []) k (later (k / 64) ne)
 
 pub zero-empty : Holds (zeroMemory 1) (zeroHead 0) emptyCache
 unfolding entries decode blank
@@ -108,7 +109,7 @@ zero-page = record {
 }
   where
     none : (k : ℕ) → bitAt (0 ∷ []) k ≡ 0
-    none k = ap (λ (x : ℕ). digit x (k % 64)) (zero-at (k / 64)) ∙ digit-of-none (k % 64)
+    none k = bit-none (0 ∷ []) k (zero-at (k / 64))
 
     first : (k : ℕ) → k < 1 → bitAt (0 ∷ []) k ≡ cond (has k (0 ∷ [])) 0 1
     first zero h = refl

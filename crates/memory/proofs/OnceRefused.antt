@@ -1,6 +1,6 @@
 -- Memory that holds no cache: the lengths that `Holds` asks for are those of any memory that holds one, and where nothing
 -- is held every slot is free, so slot 0 has a mark.
-use mathlib.Core.Path.{_≡_, sym, ap, _∙_, subst}
+use mathlib.Core.Path.{_≡_, sym, _∙_, subst}
 use mathlib.Core.List.{List, [], _∷_}
 use Prim.Native.Nat.{ℕ, _≤_}
 use native.Mathlib.Omega.{arith}
@@ -8,8 +8,7 @@ use lib.ListN.{length, getD}
 use Rattle.page.specs.Cache.{maxSlots}
 use Rattle.page.specs.declared.cache.PageCache.{PageCache}
 use Rattle.free_marks.specs.Marks.{bitAt}
-use Rattle.free_marks.proofs.Digits.{digit, digit-of-none}
-use Rattle.free_marks.proofs.Marking.{clash}
+use Rattle.free_marks.proofs.Marking.{bit-none, clash}
 use Rattle.memory.specs.Memory.{Memory}
 use Rattle.memory.specs.Holds.{Lengths, Marked, Sound}
 
@@ -35,5 +34,5 @@ marked-first (s ∷ seats) none some g = absurd (omega arith)
 -- A head that has one page is another matter: see `zero-page` (proofs/OnceExamples.antt)
 pub zero-unsound : {m : Memory} {head : PageCache} → ((w : ℕ) → getD (m .marks) w 0 ≡ 0) → head .held ≡ 0 → Sound m head → ⊥
 zero-unsound {m} zeros none s =
-    clash (ap (λ (x : ℕ). digit x 0) (zeros 0) ∙ digit-of-none 0)
+    clash (bit-none (m .marks) 0 (zeros 0))
     (marked-first (s .holds .seats) (sym (s .holds .headed .held) ∙ none) (s .holds .limits .some) (s .holds .marked))

@@ -1,4 +1,4 @@
--- A mark is a digit of its word, 0 or 1. The marks beyond the last slot are the upper digits of the last word, and they
+-- What `is_free` says of a mark, and so of its slot. The marks beyond the last slot are the upper digits of the last word, and they
 -- are all zero exactly if nothing is left of the word once it is shifted down past the others.
 use mathlib.Core.Path.{_≡_, sym, ap, _∙_}
 use mathlib.Core.Bool.{Bool, true, false, true≢false}
@@ -7,29 +7,18 @@ use Prim.Native.Nat.{ℕ, _+_, _-_, _/_, _%_, _^_, _≤_, _<_}
 use native.Mathlib.Decide.{ℕ-discrete}
 use native.Mathlib.Omega.{arith}
 use lib.Dec.{eqb}
-use lib.Pow.{pow-pos, shr-lt, shr-shr}
-use lib.ListN.{length, getD, List·getD-eq-default}
+use lib.Pow.{pow-pos, shr-lt}
+use lib.ListN.{length, getD}
 use Rattle.page.specs.declared.entry.PageCacheEntry.{PageCacheEntry}
 use Rattle.free_marks.specs.Marks.{bitAt}
 use Rattle.pool.specs.Slots.{blank}
 use Rattle.pool.specs.Decides.{Decides}
-use Rattle.free_marks.proofs.Digits.{digit, digit-of-none, digits-once}
+use Rattle.free_marks.proofs.Digits.{digit, digit-shifted, digit-of-none, digits-once}
+use Rattle.free_marks.proofs.Marking.{bit-past}
 use Rattle.pool.proofs.Decides.{decides-yes, decides-eq, decides-as}
 use Rattle.soundness.specs.Checks.{MarksFit, Beyond, HeldEntryGood, SlotGood}
 
 -- ── one mark ─────────────────────────────────────────────────────────────────
-remainder : (x : ℕ) → x % 2 ≤ 1
-remainder x = omega arith
-
-pub bit-limit : (m : List ℕ) (k : ℕ) → bitAt m k ≤ 1
-bit-limit m k = remainder (getD m (k / 64) 0 / 2 ^ (k % 64))
-
-pub bit-one : (m : List ℕ) (k : ℕ) → (bitAt m k ≡ 0 → ⊥) → bitAt m k ≡ 1
-bit-one m k ne = go (bitAt m k) (bit-limit m k) ne
-  where
-    go : (x : ℕ) → x ≤ 1 → (x ≡ 0 → ⊥) → x ≡ 1
-    go x h ne = omega arith
-
 -- what the answer of `is_free` says of a mark
 module _ {mark : ℕ} {free : Bool} (t : Decides free (mark ≡ 1)) where
   pub free-marked : free ≡ true → mark ≡ 0 → ⊥
@@ -47,14 +36,7 @@ module _ {mark : ℕ} {free : Bool} (t : Decides free (mark ≡ 1)) where
     held-slot-good h f r b = decides-as (rw r at b)
         (λ p. record { held = λ _. p; free = λ o. absurd (true≢false (sym (t .whole o) ∙ f)) }) (λ p. p .held (held-unmarked h f))
 
-pub bit-past : (m : List ℕ) (k : ℕ) → length m ≤ k / 64 → bitAt m k ≡ 0
-bit-past m k h = ap (λ (x : ℕ). digit x (k % 64)) (List·getD-eq-default m 0 h) ∙ digit-of-none (k % 64)
-
 -- ── beyond the last slot ─────────────────────────────────────────────────────
--- a digit above b is one of what is left after a shift by b
-pub digit-shifted : (x b i : ℕ) → digit (x / 2 ^ b) i ≡ digit x (b + i)
-digit-shifted x b i = ap (λ (y : ℕ). y % 2) (shr-shr x b i)
-
 module _ {m : List ℕ} {size : ℕ} (fit : MarksFit m size) where
   -- there is no last word that is used in part
   pub beyond-none : length m ≤ size / 64 → Decides true (Beyond m size)

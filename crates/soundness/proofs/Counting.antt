@@ -1,5 +1,5 @@
--- A list of different numbers that pass a test is no longer than the number of all that pass it; and if it is as long, it has
--- all of them.
+-- How many numbers below a limit pass a test. A list of different numbers that pass it is no longer than that; and if it is as long, it
+-- has all of them.
 use mathlib.Core.Path.{_≡_, refl, sym, ap, _∙_}
 use mathlib.Core.Bool.{Bool, true, false, not, _&&_, true≢false, and-true, and-false}
 use mathlib.Core.Logic.{⊎-elim}
@@ -13,7 +13,16 @@ use borrow.Author.Tests.{eq-eqb, ne-eqb}
 use Rattle.page.specs.All.{All}
 use Rattle.ring_links.specs.Ring.{has, Out, Apart}
 use Rattle.sorted_index.proofs.Membership.{has-here, has-there, has-skip, has-cons, out-has}
-use Rattle.soundness.specs.Checks.{tick, countBelow}
+
+-- ── the number of those that pass ────────────────────────────────────────────
+-- n + 1 if the test says yes, else n
+abbrev pub tick : Bool → ℕ → ℕ
+tick true n = suc n
+tick false n = n
+
+unfoldable pub countBelow : ℕ → (ℕ → Bool) → ℕ
+countBelow zero test = zero
+countBelow (suc k) test = tick (test k) (countBelow k test)
 
 -- ── the test without one number ──────────────────────────────────────────────
 minus : (ℕ → Bool) → ℕ → ℕ → Bool

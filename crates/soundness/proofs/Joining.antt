@@ -16,6 +16,7 @@ use Rattle.page.specs.declared.entry.PageCacheEntry.{PageCacheEntry}
 use Rattle.page.specs.All.{All}
 use Rattle.page.proofs.Each.{each-weaken}
 use Rattle.free_marks.specs.Marks.{bitAt}
+use Rattle.free_marks.proofs.Marking.{bit-one}
 use Rattle.ring_links.specs.Ring.{has, Out, Apart, Below}
 use Rattle.pool.specs.Slots.{blank, entries}
 use Rattle.pool.specs.Decides.{Decides}
@@ -38,10 +39,10 @@ use Rattle.memory.specs.Holds.{Lengths, Seated, rowOf, Marked, EntryGood, Holds
 use Rattle.memory.proofs.Rows.{each-seat, seat-each}
 use Rattle.memory.proofs.Seats.{blank-spare}
 use Rattle.memory.proofs.Standing.{holds-size}
-use Rattle.soundness.specs.Checks.{Agreeing, InRange, MarksFit, unmarked, Counted, SlotsReadable, Taken, Walked, Orderable, IndexGood, HeldEntryGood, AllSlotsGood, Checked}
+use Rattle.soundness.specs.Checks.{Agreeing, InRange, MarksFit, Beyond, Counted, SlotsReadable, Taken, Walked, Orderable, IndexGood, HeldEntryGood, AllSlotsGood, Checked}
 use Rattle.soundness.proofs.Passes.{lt-or-le}
-use Rattle.soundness.proofs.Bits.{bit-one}
-use Rattle.soundness.proofs.Counting.{all-has, has-all, covers, as-many}
+use Rattle.soundness.proofs.Counting.{countBelow, all-has, has-all, covers, as-many}
+use Rattle.soundness.proofs.Tally.{unmarked, unmarked-rest}
 
 -- ── rows of slots ────────────────────────────────────────────────────────────
 -- a list of slots below the size has none from the size on
@@ -84,7 +85,7 @@ module _ (m : Memory) (head : PageCache) (ch : Checked m head) where
   all-unmarked : (l : List ℕ) → Apart l → All (Taken (m .marks) size) l → length l ≡ head .held → (k : ℕ) → k < size → has k l ≡ unmarked (m .marks) k
   all-unmarked l d g e =
       covers l (unmarked (m .marks)) size d (each-weaken _ _ (λ k t. (t .inside, eq-eqb (bitAt (m .marks) k) 0 (t .held))) l g)
-      (e ∙ sym (ch .marks .count))
+      (omega (arith, e, ch .marks .count, unmarked-rest (ch .marks .beyond) (ch .agreeing .lengths .marks)))
 
   seats-taken : All (Taken (m .marks) size) seats
   seats-taken = subst (λ (s : ℕ). All (Taken (m .marks) s) seats) es-long (ch .ring .taken)
@@ -244,12 +245,17 @@ module _ {m : Memory} {head : PageCache} {c : Cache} (hd : Holds m head c) where
 
   sound-marks : Counted (m .marks) (c .size) (head .held)
   sound-marks = record {
-    beyond = record { clear = hd .marked .beyond };
-    count = as-many (hd .seats) (unmarked (m .marks)) (c .size) (hd .seated .ring .apart)
-        (has-all _ (hd .seats) (λ k e. (seat-taken k e .inside, eq-eqb (bitAt (m .marks) k) 0 (seat-taken k e .held))))
-        (λ k l t. unmarked-seat k l (eqb-true _ _ t))
-        ∙ sym (hd .headed .held);
+    beyond = none-beyond;
+    count = omega (arith, all-seats, hd .headed .held, unmarked-rest none-beyond (hd .lengths .marks));
   }
+    where
+      none-beyond : Beyond (m .marks) (c .size)
+      none-beyond = record { clear = hd .marked .beyond }
+
+      all-seats : countBelow (c .size) (unmarked (m .marks)) ≡ length (hd .seats)
+      all-seats = as-many (hd .seats) (unmarked (m .marks)) (c .size) (hd .seated .ring .apart)
+          (has-all _ (hd .seats) (λ k e. (seat-taken k e .inside, eq-eqb (bitAt (m .marks) k) 0 (seat-taken k e .held))))
+          (λ k l t. unmarked-seat k l (eqb-true _ _ t))
 
   sound-ring : Walked sound-es (m .marks) (head .held) (head .hand .0)
   sound-ring = record {

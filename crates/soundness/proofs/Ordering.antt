@@ -13,7 +13,8 @@ use Rattle.pool.specs.Decides.{Decides}
 use Rattle.pool.proofs.Decides.{decides-yes, decides-no}
 use Rattle.sorted_index.specs.Index.{nameAt}
 use Rattle.soundness.specs.Checks.{Taken, Ordered}
-use Rattle.soundness.proofs.Bits.{bit-limit, free-marked, held-unmarked}
+use Rattle.free_marks.proofs.Marking.{bit-limit}
+use Rattle.soundness.proofs.Bits.{free-marked, held-unmarked}
 
 -- the first i places are in order, and the next name is to be `least` or more
 pub record OrderedTo (col order m : List ℕ) (least i : ℕ) : Type 0 where

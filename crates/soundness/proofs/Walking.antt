@@ -19,7 +19,8 @@ use Rattle.pool.specs.Decides.{Decides}
 use Rattle.ring_links.proofs.Columns.{next-at, prev-at}
 use Rattle.pool.proofs.Decides.{decides-no}
 use Rattle.soundness.specs.Checks.{Taken, Walked}
-use Rattle.soundness.proofs.Bits.{bit-limit, free-marked, held-unmarked}
+use Rattle.free_marks.proofs.Marking.{bit-limit}
+use Rattle.soundness.proofs.Bits.{free-marked, held-unmarked}
 
 -- ── no slot twice ────────────────────────────────────────────────────────────
 module _ (n p : List ℕ) (z : ℕ) where

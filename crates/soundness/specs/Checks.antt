@@ -1,10 +1,8 @@
 -- What each pass of the soundness test finds out. `Checked` is all of it, and comes to the same as `Sound`
 -- (proofs/Joining.antt).
 use mathlib.Core.Path.{_≡_}
-use mathlib.Core.Bool.{Bool, true, false}
 use mathlib.Core.List.{List}
-use Prim.Native.Nat.{ℕ, zero, suc, _+_, _*_, _/_, _≤_, _<_}
-use lib.Dec.{eqb}
+use Prim.Native.Nat.{ℕ, _+_, _*_, _/_, _≤_, _<_}
 use lib.ListN.{length, getD}
 use Rattle.page.specs.Cache.{maxSlots}
 use Rattle.page.specs.Entry.{refMax}
@@ -13,7 +11,7 @@ use Rattle.page.specs.declared.cache.PageCache.{PageCache}
 use Rattle.page.specs.declared.entry.PageCacheEntry.{PageCacheEntry}
 use Rattle.page.specs.All.{All}
 use Rattle.ring_links.specs.Links.{nexts, prevs}
-use Rattle.free_marks.specs.Marks.{bitAt}
+use Rattle.free_marks.specs.Marks.{bitAt, freeSlots}
 use Rattle.ring_links.specs.Ring.{Apart, Round, firstOf}
 use Rattle.pool.specs.Slots.{blank, entries}
 use Rattle.sorted_index.specs.Index.{nameAt}
@@ -45,24 +43,10 @@ pub record MarksFit (marks : List ℕ) (size : ℕ) : Type 0 where
 pub record Beyond (marks : List ℕ) (size : ℕ) : Type 0 where
   pub clear : (k : ℕ) → size ≤ k → bitAt marks k ≡ 0
 
--- slot k is not marked as free
-abbrev pub unmarked : List ℕ → ℕ → Bool
-unmarked marks k = eqb (bitAt marks k) 0
-
--- n + 1 if the test says yes, else n
-abbrev pub tick : Bool → ℕ → ℕ
-tick true n = suc n
-tick false n = n
-
--- how many numbers below a limit pass the test
-unfoldable pub countBelow : ℕ → (ℕ → Bool) → ℕ
-countBelow zero test = zero
-countBelow (suc k) test = tick (test k) (countBelow k test)
-
--- the unmarked slots are as many as are held
+-- every slot is free or held
 pub record Counted (marks : List ℕ) (size held : ℕ) : Type 0 where
   pub beyond : Beyond marks size
-  pub count : countBelow size (unmarked marks) ≡ held
+  pub count : freeSlots marks + held ≡ size
 
 -- ── slots that may be looked at ──────────────────────────────────────────────
 -- the slots below the size have an entry and a mark

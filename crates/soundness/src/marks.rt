@@ -15,7 +15,7 @@ fn clear_beyond(marks: &[u64], size: u32) -> bool
     (marks[last] >> (size % 64)) == 0
 }
 
-// Whether exactly `held` slots are unmarked, and no mark stands beyond the last slot.
+// Whether no mark stands beyond the last slot, and the slots that are not free are as many as are held.
 pub fn marks_agree(marks: &[u64], size: u32, held: u32) -> bool
     requires { ⌜ MarksFit (now marks) size ⌝ }
     ensures { λ r. ⌜ Decides r (Counted (now (marks .entry)) size held) ⌝ }
