@@ -10,23 +10,25 @@ use lib.Dec.{eqb, ltb}
 use lib.ListN.{length}
 use Rattle.page.specs.Cache.{pageOne}
 use Rattle.page.specs.Entry.{raised}
-use Rattle.page.specs.Record.{dirty, stale, deletable}
+use Rattle.page.specs.Record.{dirty, stale, deletable, oneHolderMore, oneHolderLess}
 use Rattle.page.specs.declared.record.Deletable.{Deletable}
 use Rattle.page.specs.declared.record.Deletable.the-variants.{Yes, Locked, Dirty, Pinned}
 use Rattle.page.specs.declared.record.PageRecord.{PageRecord}
+use Rattle.page.specs.declared.record.Recount.{Recount}
+use Rattle.page.specs.declared.record.Recount.the-variants.{Now, AtLimit}
 use Rattle.model.specs.Row.{Page, Entry, Row, total, find, byKey, those}
 use Rattle.model.specs.Sweep.{touched}
-use Rattle.model.specs.Cache.{Cache, heldIn, withCapacity, up, down, leave, newPage, touch, replacedEntry}
-use Rattle.model.specs.Call.{Insertion, plain, forced, upsert, Call, create, insert, lookup, peek, delete, resize, truncate, remove-frames, clear, notify-dirty, notify-spilled, write, spill, evict-one, switch, Outcome, answer, listing, touching}
+use Rattle.model.specs.Cache.{Cache, heldIn, withCapacity, up, down, leave, newPage, touch, rewritten, rewrite, replacedEntry}
+use Rattle.model.specs.Call.{Insertion, plain, forced, upsert, Call, create, insert, lookup, peek, release, delete, resize, truncate, remove-frames, clear, notify-dirty, notify-spilled, write, spill, evict-one, switch, Outcome, answer, listing, touching}
 use Rattle.model.specs.Tests.{refusal}
 use Rattle.model.specs.Limits.{CacheInvariant}
 use Rattle.model.specs.Rooms.{Room, sweepOf, evicted, enough, sweeping, evictTo, makeRoom, following}
 use Rattle.model.specs.Evictions.{EvictsTo}
 use Rattle.model.specs.Evictions as evictions
-use Rattle.model.specs.Rules.{deleting, deleteFound, place, placeIfFree, onFull, inRoom, admit, keyExists, present, insertFound, onInsert, hit, lookupFound, peekFound, onResize, deleteEach, newerThan, emptied, clearUnless, onClear, notified, writeFound, evictFrom}
+use Rattle.model.specs.Rules.{deleting, deleteFound, place, placeIfFree, onFull, inRoom, admit, keyExists, present, insertFound, onInsert, hit, lookupFound, peekFound, releaseFound, onResize, deleteEach, newerThan, emptied, clearUnless, onClear, notified, writeFound, evictFrom}
 use Rattle.model.specs.Spill.{needsSpill, selection, selected, onSpill}
 use Rattle.model.specs.Step.{act, tested, step, run, runTouches, runFalls}
-use Rattle.model.specs.Uses.{Evicting, neither, touches, evicts, roomEffect, presentEffect, insertEffect, lookupEffect, peekEffect, resizeEffect, evictEffect, ruleEffect, unlessRefused, effectOf, touchesOf, Touched, Enters, stays, enters, NoEvictions, EvictionsOf, Fell, Counts}
+use Rattle.model.specs.Uses.{Evicting, neither, touches, evicts, roomEffect, presentEffect, insertEffect, hitEffect, lookupEffect, peekEffect, resizeEffect, evictEffect, ruleEffect, unlessRefused, effectOf, touchesOf, Touched, Enters, stays, enters, NoEvictions, EvictionsOf, Fell, Counts}
 use Rattle.model.proofs.ByKey.{Stands, find-stands, stands-own, stands-change, stands-changed}
 use Rattle.model.proofs.Evictions.{sweeping-evicts, evict-to-evicts, evicts-total}
 use Rattle.model.proofs.KeptCases.{either, deleted-or-refused}
@@ -77,6 +79,14 @@ write-plain : (key : ℕ) (state : PageRecord) (found : Option Entry) (c : Cache
 write-plain key state none c = answered
 write-plain key state (some e) c = answered
 
+release-plain : (key : ℕ) (found : Option Entry) (c : Cache) → Plain (releaseFound key found c)
+release-plain key none c = answered
+release-plain key (some e) c = go (oneHolderLess (e .page .state))
+  where
+    go : (r : Recount) → Plain (elim r [ Now state ↦ answer 0 0 (rewrite key state c) | AtLimit ↦ answer 20 0 c ])
+    go (Now state) = answered
+    go AtLimit = answered
+
 selected-plain : (ps : List Page) (c : Cache) → Plain (selected ps c)
 selected-plain [] c row = answered row
 selected-plain (p ∷ ps) c row = record { touches = refl; evictions = record { passed = refl; falls = refl } }
@@ -105,25 +115,45 @@ touched-counts {e = e} s o e′ one row key uses idle = record {
   evictions = idle;
 }
 
-hit-counts : (key : ℕ) (c : Cache) (e : Entry) → Stands key (c .row) e → Counts (touches (e .page)) (c .row) (hit key (e .page) c)
-hit-counts key c e s =
-    touched-counts s (hit key (e .page) c) (touched e) refl (stands-change key (c .row) e s touched) refl refl (record { passed = refl; falls = refl })
+-- one holder more, and then a touch or none
+hit-counts : (key : ℕ) (asked : Bool) (c : Cache) (e : Entry) → Stands key (c .row) e
+    → Counts (hitEffect asked (e .page)) (c .row) (hit key asked (e .page) c)
+hit-counts key asked c e s = go (oneHolderMore (e .page .state))
+  where
+    told : (b : Bool) (state : PageRecord) → Counts (elim b [ true ↦ touches (e .page) | false ↦ neither ]) (c .row) (elim b [
+      | true ↦ touching (answer 0 (e .page .handle) (touch key (rewrite key state c)))
+      | false ↦ answer 0 (e .page .handle) (rewrite key state c)
+    ])
+    told true state =
+        touched-counts s (touching (answer 0 (e .page .handle) (touch key (rewrite key state c)))) (touched (rewritten state e)) refl
+        (stands-change key _ (rewritten state e) (stands-changed key (c .row) e s (rewritten state) (s .named)) touched) refl refl
+        (record { passed = refl; falls = refl })
+    told false state = answered (c .row)
+
+    go : (r : Recount) → Counts (elim r [ Now state ↦ elim asked [ true ↦ touches (e .page) | false ↦ neither ] | AtLimit ↦ neither ]) (c .row) (elim r [
+      | Now state ↦ elim asked [
+        | true ↦ touching (answer 0 (e .page .handle) (touch key (rewrite key state c)))
+        | false ↦ answer 0 (e .page .handle) (rewrite key state c)
+      ]
+      | AtLimit ↦ answer 20 0 c
+    ])
+    go (Now state) = told asked state
+    go AtLimit = answered (c .row)
 
 lookup-counts : (key : ℕ) (found : Option Entry) (c : Cache) → find key (c .row) ≡ found
     → Counts (lookupEffect found) (c .row) (lookupFound key found c)
 lookup-counts key none c q = answered (c .row)
 lookup-counts key (some e) c q = go (stale (e .page .state))
   where
-    go : (b : Bool) → Counts (elim b [ true ↦ neither | false ↦ touches (e .page) ]) (c .row)
-        (elim b [ true ↦ deleting (e .page) (answer 4 0) c | false ↦ hit key (e .page) c ])
+    go : (b : Bool) → Counts (elim b [ true ↦ neither | false ↦ hitEffect true (e .page) ]) (c .row)
+        (elim b [ true ↦ deleting (e .page) (answer 4 0) c | false ↦ hit key true (e .page) c ])
     go true = deleting-plain (e .page) (answer 4 0) c answered (c .row)
-    go false = hit-counts key c e (find-stands key (c .row) e q)
+    go false = hit-counts key true c e (find-stands key (c .row) e q)
 
 peek-counts : (key : ℕ) (asked : Bool) (found : Option Entry) (c : Cache) → find key (c .row) ≡ found
     → Counts (peekEffect asked found) (c .row) (peekFound key asked found c)
 peek-counts key asked none c q = answered (c .row)
-peek-counts key true (some e) c q = hit-counts key c e (find-stands key (c .row) e q)
-peek-counts key false (some e) c q = answered (c .row)
+peek-counts key asked (some e) c q = hit-counts key asked c e (find-stands key (c .row) e q)
 
 -- ── evictions ────────────────────────────────────────────────────────────────
 -- what follows evictions that left the cache d: nothing is counted or listed, and at most a new page comes
@@ -277,6 +307,7 @@ act-counts (create capacity) c k = answered (c .row)
 act-counts (insert how key handle state places) c k = insert-counts key handle state how (find key (c .row)) c k refl
 act-counts (lookup key places) c k = lookup-counts key (find key (c .row)) c refl
 act-counts (peek key asked) c k = peek-counts key asked (find key (c .row)) c refl
+act-counts (release key) c k = release-plain key (find key (c .row)) c (c .row)
 act-counts (delete key places) c k = delete-plain (find key (c .row)) c (c .row)
 act-counts (resize capacity places) c k = resize-counts capacity c k
 act-counts (truncate limit places) c k = delete-each-plain (those (λ p. ltb limit (p .key)) (byKey (c .row))) c (c .row)

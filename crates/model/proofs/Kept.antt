@@ -36,7 +36,7 @@ step-kept call c ranged k = step-leaves call c k .kept ranged
 pub listed-bound : (call : Call) (c : Cache) → CacheInvariant c → length (step call c .listed) ≤ heldIn c
 listed-bound call c k = step-leaves call c k .listed
 
--- the codes 11, 12, 13, 14, 15, 18 and 19 leave all unchanged
+-- the codes 11, 12, 13, 14, 15, 18, 19 and 20 leave all unchanged
 pub high-code-unchanged : (call : Call) (c : Cache) → CacheInvariant c → 11 ≤ step call c .code → Unchanged c (step call c)
 high-code-unchanged call c k = step-leaves call c k .refused
 

@@ -1,14 +1,18 @@
 -- Every change of one page keeps the limits: a page that stands in the row goes, is touched, has its record written, or gives
 -- its place to another, and the row splits there.
-use mathlib.Core.Bool.{Bool}
+use mathlib.Core.Bool.{Bool, true, false, cond}
 use mathlib.Core.List.{_∷_, _++_}
 use mathlib.Core.Option.{Option, none, some}
 use mathlib.Core.Path.{_≡_, refl}
-use Prim.Native.Nat.{ℕ, suc, _≤_, _<_, _^_}
+use Prim.Native.Nat.{ℕ, suc, _+_, _-_, _≤_, _<_, _^_}
 use native.Mathlib.Omega.{arith}
+use lib.Dec.{ltb}
 use lib.ListN.{length, length-append}
-use Rattle.page.specs.Record.{allFlags}
+use borrow.Author.Tests.{ltb-true}
+use Rattle.page.specs.Record.{allFlags, holdersMax, withHolders, oneHolderMore, oneHolderLess}
 use Rattle.page.specs.declared.record.PageRecord.{PageRecord}
+use Rattle.page.specs.declared.record.Recount.{Recount}
+use Rattle.page.specs.declared.record.Recount.the-variants.{Now, AtLimit}
 use Rattle.page.proofs.Each.{each-middle}
 use Rattle.model.specs.Row.{Page, Entry, Row, Each, find, change, without}
 use Rattle.model.specs.Sweep.{touched}
@@ -129,6 +133,36 @@ module _ (c : Cache) (k : CacheInvariant c) (key : ℕ) (e : Entry) (s : Stands 
         uses = stands-good .uses;
       } in
       change-kept (rewritten state) (c .estimate) (k .estimate) g refl refl other-handles
+
+-- ── one holder more or less ──────────────────────────────────────────────────
+-- a record that may be written, if there is one
+abbrev pub Writable : Recount → Type 0
+Writable (Now state) = RecordInRange state × (state .flags ≤ allFlags)
+Writable AtLimit = Unit {0}
+
+module _ {size : ℕ} {e : Entry} (g : EntryInRange size e) where
+  recounted : (n : ℕ) → n < 2 ^ 16 → Writable (Now (withHolders (e .page .state) n))
+  recounted n small = (record { pins = g .fit .pins; holders = small; cells = g .fit .cells; frame = g .fit .frame }, g .flags)
+
+  pub more-writable : Writable (oneHolderMore (e .page .state))
+  more-writable = go (ltb n holdersMax) refl
+    where
+      n : ℕ
+      n = e .page .state .holders
+
+      go : (b : Bool) → ltb n holdersMax ≡ b → Writable (cond b (Now (withHolders (e .page .state) (n + 1))) AtLimit)
+      go true q = recounted (n + 1) (omega (arith, ltb-true n holdersMax q))
+      go false q = tt
+
+  pub less-writable : Writable (oneHolderLess (e .page .state))
+  less-writable = go (ltb 0 n)
+    where
+      n : ℕ
+      n = e .page .state .holders
+
+      go : (b : Bool) → Writable (cond b (Now (withHolders (e .page .state) (n - 1))) AtLimit)
+      go true = recounted (n - 1) (omega (arith, g .fit .holders))
+      go false = tt
 
 -- another page in its place, with a handle that no other page has
 replace-kept : (c : Cache) → CacheInvariant c → (e : Entry) (s : Stands (e .page .key) (c .row) e) (handle : ℕ) (state : PageRecord)

@@ -11,23 +11,25 @@ use lib.Dec.{eqb}
 use lib.ListN.{length, length-append, length-map, length-take}
 use borrow.Author.Tests.{ltb-false}
 use Rattle.page.specs.Cache.{pageOne}
-use Rattle.page.specs.Record.{allFlags, dirty, stale}
+use Rattle.page.specs.Record.{allFlags, dirty, stale, oneHolderMore, oneHolderLess}
 use Rattle.page.specs.declared.record.PageRecord.{PageRecord}
+use Rattle.page.specs.declared.record.Recount.{Recount}
+use Rattle.page.specs.declared.record.Recount.the-variants.{Now, AtLimit}
 use Rattle.model.specs.Row.{Page, Entry, Row, find, byKey, those}
-use Rattle.model.specs.Cache.{Cache, heldIn, withCapacity, withSpill, fresh, estimateMax, up, down, leave, rewrite}
-use Rattle.model.specs.Call.{Call, create, insert, lookup, peek, delete, resize, truncate, remove-frames, clear, notify-dirty, notify-spilled, write, spill, evict-one, switch, Outcome, answer}
+use Rattle.model.specs.Cache.{Cache, heldIn, withCapacity, withSpill, fresh, estimateMax, up, down, leave, touch, rewritten, rewrite}
+use Rattle.model.specs.Call.{Call, create, insert, lookup, peek, release, delete, resize, truncate, remove-frames, clear, notify-dirty, notify-spilled, write, spill, evict-one, switch, Outcome, answer, touching}
 use Rattle.model.specs.Rooms.{Room, sweepOf, evicted, enough, sweeping, evictTo, following}
-use Rattle.model.specs.Rules.{deleting, hit, lookupFound, peekFound, deleteFound, onResize, deleteEach, onClear, emptied, clearUnless, notified, writeFound, evictFrom}
+use Rattle.model.specs.Rules.{deleting, hit, lookupFound, peekFound, releaseFound, deleteFound, onResize, deleteEach, onClear, emptied, clearUnless, notified, writeFound, evictFrom}
 use Rattle.model.specs.Spill.{onSpill, selected, selection, needsSpill, pageSpillable}
 use Rattle.model.specs.Step.{act}
 use Rattle.model.specs.Limits.{RecordInRange, CacheInvariant, ArgumentsInRange}
-use Rattle.model.proofs.ByKey.{Stands, stands-own, find-stands}
+use Rattle.model.proofs.ByKey.{Stands, stands-own, stands-changed, find-stands}
 use Rattle.model.proofs.KeptCases.{either, deleted-or-refused}
 use Rattle.model.proofs.KeptOrder.{by-key-length, walk-length}
 use Rattle.model.proofs.KeptRows.{kept-fits, fits-kept}
 use Rattle.model.proofs.KeptRooms.{Makes, evict-makes, evict-one-makes}
 use Rattle.model.proofs.KeptSize.{evictions-size}
-use Rattle.model.proofs.KeptPages.{fresh-kept, capacity-kept, switch-kept, leave-kept, without-held, touch-kept, rewrite-kept}
+use Rattle.model.proofs.KeptPages.{fresh-kept, capacity-kept, switch-kept, leave-kept, without-held, stands-good, touch-kept, rewrite-kept, Writable, more-writable, less-writable}
 use Rattle.model.proofs.KeptTests.{Passes}
 use Rattle.model.proofs.KeptLeaves.{Leaves, leaves-same, leaves-done, leaves-listing, leaves-evicted}
 use Rattle.model.proofs.KeptInsertion.{insert-leaves}
@@ -54,21 +56,47 @@ module _ {given : Type 0} (c : Cache) (k : CacheInvariant c) where
   delete-found-leaves key none q = leaves-same c 0 0 k
   delete-found-leaves key (some e) q = delete-leaves key 0 (omega arith) e (find-stands key (c .row) e q)
 
-  hit-leaves : (key : ℕ) (e : Entry) → Stands key (c .row) e → Leaves c (heldIn c) given (hit key (e .page) c)
-  hit-leaves key e s = leaves-done c _ (inl refl) (omega arith) (λ _. touch-kept c k key e s)
+  -- the record is written if there is one, and after it a hit may touch the page
+  hit-leaves : (key : ℕ) (asked : Bool) (e : Entry) → Stands key (c .row) e → Leaves c (heldIn c) given (hit key asked (e .page) c)
+  hit-leaves key asked e s = go (oneHolderMore (e .page .state)) (more-writable (stands-good c k key e s))
+    where
+      go : (r : Recount) → Writable r → Leaves c (heldIn c) given (elim r [
+        | Now state ↦ elim asked [
+          | true ↦ touching (answer 0 (e .page .handle) (touch key (rewrite key state c)))
+          | false ↦ answer 0 (e .page .handle) (rewrite key state c)
+        ]
+        | AtLimit ↦ answer 20 0 c
+      ])
+      go (Now state) may =
+          let written : CacheInvariant (rewrite key state c) = rewrite-kept c k key e s state (may .1) (may .0) in
+          either (Leaves c (heldIn c) given) asked
+          (λ _. leaves-done c _ (inl refl) (omega arith) (λ _. touch-kept (rewrite key state c) written key (rewritten state e) (stands-changed key (c .row) e s (rewritten state) (s .named))))
+          (λ _. leaves-done c _ (inl refl) (omega arith) (λ _. written))
+      go AtLimit may = leaves-same c 20 0 k
 
   lookup-leaves : (key : ℕ) (v : Option Entry) → find key (c .row) ≡ v → Leaves c (heldIn c) given (lookupFound key v c)
   lookup-leaves key none q = leaves-same c 4 0 k
   lookup-leaves key (some e) q =
       let s = find-stands key (c .row) e q in
       either (Leaves c (heldIn c) given) (stale (e .page .state))
-      (λ _. delete-leaves key 4 (omega arith) e s) (λ _. hit-leaves key e s)
+      (λ _. delete-leaves key 4 (omega arith) e s) (λ _. hit-leaves key true e s)
 
   peek-leaves : (key : ℕ) (asked : Bool) (v : Option Entry) → find key (c .row) ≡ v
       → Leaves c (heldIn c) given (peekFound key asked v c)
   peek-leaves key asked none q = leaves-same c 4 0 k
-  peek-leaves key asked (some e) q = either (Leaves c (heldIn c) given) asked
-      (λ _. hit-leaves key e (find-stands key (c .row) e q)) (λ _. leaves-same c 0 (e .page .handle) k)
+  peek-leaves key asked (some e) q = hit-leaves key asked e (find-stands key (c .row) e q)
+
+  release-leaves : (key : ℕ) (v : Option Entry) → find key (c .row) ≡ v → Leaves c (heldIn c) given (releaseFound key v c)
+  release-leaves key none q = leaves-same c 4 0 k
+  release-leaves key (some e) q = go (oneHolderLess (e .page .state)) (less-writable (stands-good c k key e s))
+    where
+      s : Stands key (c .row) e
+      s = find-stands key (c .row) e q
+
+      go : (r : Recount) → Writable r
+          → Leaves c (heldIn c) given (elim r [ Now state ↦ answer 0 0 (rewrite key state c) | AtLimit ↦ answer 20 0 c ])
+      go (Now state) may = leaves-done c _ (inl refl) (omega arith) (λ _. rewrite-kept c k key e s state (may .1) (may .0))
+      go AtLimit may = leaves-same c 20 0 k
 
   -- ── evictions, asked for ───────────────────────────────────────────────────
   resize-leaves : (capacity : ℕ) → capacity ≤ c .size → Leaves c (heldIn c) given (onResize capacity c)
@@ -180,6 +208,7 @@ act-leaves (insert how key handle state places) c k t =
     insert-leaves key handle state (ltb-false allFlags (state .flags) (t .state)) how c k (t .naming)
 act-leaves (lookup key places) c k t = lookup-leaves c k key (find key (c .row)) refl
 act-leaves (peek key asked) c k t = peek-leaves c k key asked (find key (c .row)) refl
+act-leaves (release key) c k t = release-leaves c k key (find key (c .row)) refl
 act-leaves (delete key places) c k t = delete-found-leaves c k key (find key (c .row)) refl
 act-leaves (resize capacity places) c k t = resize-leaves c k capacity (ltb-false (c .size) capacity (t .capacity))
 act-leaves (truncate limit places) c k t = delete-those-leaves _ c k

@@ -7,13 +7,15 @@ use mathlib.Core.Path.{_≡_, refl, _∙_}
 use Prim.Native.Nat.{ℕ, zero, suc, _-_}
 use lib.Dec.{eqb, ltb}
 use Rattle.page.specs.Cache.{pageOne}
-use Rattle.page.specs.Record.{stale}
+use Rattle.page.specs.Record.{stale, oneHolderMore, oneHolderLess}
 use Rattle.page.specs.declared.record.PageRecord.{PageRecord}
+use Rattle.page.specs.declared.record.Recount.{Recount}
+use Rattle.page.specs.declared.record.Recount.the-variants.{Now, AtLimit}
 use Rattle.model.specs.Row.{Page, Entry, Row, find, byKey, those}
-use Rattle.model.specs.Cache.{Cache, heldIn, leave}
-use Rattle.model.specs.Call.{Call, create, insert, lookup, peek, delete, resize, truncate, remove-frames, clear, notify-dirty, notify-spilled, write, spill, evict-one, switch, Insertion, plain, forced, upsert, Outcome, answer}
+use Rattle.model.specs.Cache.{Cache, heldIn, leave, touch, rewrite}
+use Rattle.model.specs.Call.{Call, create, insert, lookup, peek, release, delete, resize, truncate, remove-frames, clear, notify-dirty, notify-spilled, write, spill, evict-one, switch, Insertion, plain, forced, upsert, Outcome, answer, touching}
 use Rattle.model.specs.Rooms.{Room, sweepOf, evicted, enough, sweeping, evictions, evictTo, makeRoom}
-use Rattle.model.specs.Rules.{deleting, onInsert, insertFound, admit, onFull, present, keyExists, lookupFound, peekFound, deleteFound, onResize, deleteEach, onClear, clearUnless, notified, writeFound, evictFrom}
+use Rattle.model.specs.Rules.{deleting, onInsert, insertFound, admit, onFull, present, keyExists, hit, lookupFound, peekFound, releaseFound, deleteFound, onResize, deleteEach, onClear, clearUnless, notified, writeFound, evictFrom}
 use Rattle.model.specs.Spill.{onSpill, selected, selection, needsSpill}
 use Rattle.model.specs.Step.{act, tested, step}
 use Rattle.model.specs.Tests.{refusal}
@@ -69,14 +71,35 @@ module _ (key handle : ℕ) (state : PageRecord) where
       (λ _. stale-size how (e .page) c) (λ _. present-size how (e .page) c)
 
 -- ── the other rules ──────────────────────────────────────────────────────────
+hit-size : (key : ℕ) (asked : Bool) (p : Page) (c : Cache) → SameSize c (hit key asked p c)
+hit-size key asked p c = go (oneHolderMore (p .state))
+  where
+    go : (r : Recount) → SameSize c (elim r [
+      | Now state ↦ elim asked [
+        | true ↦ touching (answer 0 (p .handle) (touch key (rewrite key state c)))
+        | false ↦ answer 0 (p .handle) (rewrite key state c)
+      ]
+      | AtLimit ↦ answer 20 0 c
+    ])
+    go (Now state) = either (SameSize c) asked (λ _. refl) (λ _. refl)
+    go AtLimit = refl
+
 lookup-size : (key : ℕ) (v : Option Entry) (c : Cache) → SameSize c (lookupFound key v c)
 lookup-size key none c = refl
 lookup-size key (some e) c = either (SameSize c) (stale (e .page .state))
-    (λ _. deleted-or-refused (SameSize c) (e .page) (answer 4 0) c refl (λ _ _ _. refl)) (λ _. refl)
+    (λ _. deleted-or-refused (SameSize c) (e .page) (answer 4 0) c refl (λ _ _ _. refl)) (λ _. hit-size key true (e .page) c)
 
 peek-size : (key : ℕ) (asked : Bool) (v : Option Entry) (c : Cache) → SameSize c (peekFound key asked v c)
 peek-size key asked none c = refl
-peek-size key asked (some e) c = either (SameSize c) asked (λ _. refl) (λ _. refl)
+peek-size key asked (some e) c = hit-size key asked (e .page) c
+
+release-size : (key : ℕ) (v : Option Entry) (c : Cache) → SameSize c (releaseFound key v c)
+release-size key none c = refl
+release-size key (some e) c = go (oneHolderLess (e .page .state))
+  where
+    go : (r : Recount) → SameSize c (elim r [ Now state ↦ answer 0 0 (rewrite key state c) | AtLimit ↦ answer 20 0 c ])
+    go (Now state) = refl
+    go AtLimit = refl
 
 delete-size : (v : Option Entry) (c : Cache) → SameSize c (deleteFound v c)
 delete-size none c = refl
@@ -129,6 +152,7 @@ act-size (create capacity) c = refl
 act-size (insert how key handle state places) c = insert-size key handle state how (find key (c .row)) c
 act-size (lookup key places) c = lookup-size key (find key (c .row)) c
 act-size (peek key asked) c = peek-size key asked (find key (c .row)) c
+act-size (release key) c = release-size key (find key (c .row)) c
 act-size (delete key places) c = delete-size (find key (c .row)) c
 act-size (resize capacity places) c = resize-size capacity c
 act-size (truncate limit places) c = delete-each-size _ c

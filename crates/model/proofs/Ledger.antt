@@ -7,17 +7,19 @@ use Prim.Native.Nat.{ℕ, zero, suc, _+_, _-_, _≤_}
 use native.Mathlib.Omega.{arith}
 use lib.Dec.{eqb, ltb}
 use Rattle.page.specs.Cache.{pageOne}
-use Rattle.page.specs.Record.{dirty, stale, deletable}
+use Rattle.page.specs.Record.{dirty, stale, deletable, oneHolderMore, oneHolderLess}
 use Rattle.page.specs.declared.record.Deletable.{Deletable}
 use Rattle.page.specs.declared.record.Deletable.the-variants.{Yes, Locked, Dirty, Pinned}
 use Rattle.page.specs.declared.record.PageRecord.{PageRecord}
+use Rattle.page.specs.declared.record.Recount.{Recount}
+use Rattle.page.specs.declared.record.Recount.the-variants.{Now, AtLimit}
 use Rattle.model.specs.Row.{Page, Entry, Row, find, change, byKey, those, total}
 use Rattle.model.specs.Sweep.{touched}
-use Rattle.model.specs.Cache.{Cache, heldIn, fresh, pageMayGo, up, down, leave, newPage, rewritten, replacedEntry}
-use Rattle.model.specs.Call.{Insertion, plain, forced, upsert, Call, create, insert, lookup, peek, delete, resize, truncate, remove-frames, clear, notify-dirty, notify-spilled, write, spill, evict-one, switch, Outcome, answer, listing, touching}
+use Rattle.model.specs.Cache.{Cache, heldIn, fresh, pageMayGo, up, down, leave, newPage, touch, rewritten, rewrite, replacedEntry}
+use Rattle.model.specs.Call.{Insertion, plain, forced, upsert, Call, create, insert, lookup, peek, release, delete, resize, truncate, remove-frames, clear, notify-dirty, notify-spilled, write, spill, evict-one, switch, Outcome, answer, listing, touching}
 use Rattle.model.specs.Tests.{refusal}
 use Rattle.model.specs.Rooms.{Room, sweepOf, evicted, enough, sweeping, evictions, evictTo, makeRoom, following}
-use Rattle.model.specs.Rules.{deleting, deleteFound, place, onFull, admit, keyExists, present, insertFound, onInsert, hit, lookupFound, peekFound, onResize, deleteEach, newerThan, emptied, clearUnless, onClear, notified, writeFound, evictFrom}
+use Rattle.model.specs.Rules.{deleting, deleteFound, place, onFull, admit, keyExists, present, insertFound, onInsert, hit, lookupFound, peekFound, releaseFound, onResize, deleteEach, newerThan, emptied, clearUnless, onClear, notified, writeFound, evictFrom}
 use Rattle.model.specs.Spill.{needsSpill, selection, selected, onSpill}
 use Rattle.model.specs.Step.{act, tested, step, run, runTouches, runFalls}
 use Rattle.model.proofs.Totals.{sweep-total, total-change, total-without, total-enter}
@@ -97,12 +99,28 @@ delete-balanced : (found : Option Entry) (c : Cache) → Balanced (c .row) (dele
 delete-balanced none c = still
 delete-balanced (some e) c = deleting-balanced (e .page) (answer 0 0) c still
 
--- ── a touch ──────────────────────────────────────────────────────────────────
+-- ── a hit ────────────────────────────────────────────────────────────────────
 touch-adds : (key : ℕ) (row : Row) → total (change key touched row) ≤ 1 + total row
 touch-adds = total-change 1 touched (λ e. omega arith)
 
-hit-balanced : (key : ℕ) (p : Page) (c : Cache) → Balanced (c .row) (hit key p c)
-hit-balanced key p c = touch-pays (touch-adds key (c .row))
+-- another record has no uses to it
+rewrite-adds : (key : ℕ) (state : PageRecord) (row : Row) → total (change key (rewritten state) row) ≤ total row
+rewrite-adds key state row = omega (arith, total-change 0 (rewritten state) (λ e. omega arith) key row)
+
+hit-balanced : (key : ℕ) (asked : Bool) (p : Page) (c : Cache) → Balanced (c .row) (hit key asked p c)
+hit-balanced key asked p c = go (oneHolderMore (p .state))
+  where
+    go : (r : Recount) → Balanced (c .row) (elim r [
+      | Now state ↦ elim asked [
+        | true ↦ touching (answer 0 (p .handle) (touch key (rewrite key state c)))
+        | false ↦ answer 0 (p .handle) (rewrite key state c)
+      ]
+      | AtLimit ↦ answer 20 0 c
+    ])
+    go (Now state) =
+        let held : Row = change key (rewritten state) (c .row) in
+        both-ways asked (touch-pays (omega (arith, touch-adds key held, rewrite-adds key state (c .row)))) (fewer-uses (rewrite-adds key state (c .row)))
+    go AtLimit = still
 
 -- ── rules 5, 6 and 7: insertion ──────────────────────────────────────────────
 module _ (key handle : ℕ) (state : PageRecord) where
@@ -137,15 +155,23 @@ module _ (key handle : ℕ) (state : PageRecord) where
       let deleted = deleting-balanced p (admit key handle state how) c (admit-balanced how (leave p c)) in
       both-ways (stale (p .state)) deleted (present-balanced how p c)
 
--- ── rule 9: lookup and peek ──────────────────────────────────────────────────
+-- ── rule 9: lookup, peek and release ─────────────────────────────────────────
 lookup-balanced : (key : ℕ) (found : Option Entry) (c : Cache) → Balanced (c .row) (lookupFound key found c)
 lookup-balanced key none c = still
 lookup-balanced key (some e) c =
-    both-ways (stale (e .page .state)) (deleting-balanced (e .page) (answer 4 0) c still) (hit-balanced key (e .page) c)
+    both-ways (stale (e .page .state)) (deleting-balanced (e .page) (answer 4 0) c still) (hit-balanced key true (e .page) c)
 
 peek-balanced : (key : ℕ) (asked : Bool) (found : Option Entry) (c : Cache) → Balanced (c .row) (peekFound key asked found c)
 peek-balanced key asked none c = still
-peek-balanced key asked (some e) c = both-ways asked (hit-balanced key (e .page) c) still
+peek-balanced key asked (some e) c = hit-balanced key asked (e .page) c
+
+release-balanced : (key : ℕ) (found : Option Entry) (c : Cache) → Balanced (c .row) (releaseFound key found c)
+release-balanced key none c = still
+release-balanced key (some e) c = go (oneHolderLess (e .page .state))
+  where
+    go : (r : Recount) → Balanced (c .row) (elim r [ Now state ↦ answer 0 0 (rewrite key state c) | AtLimit ↦ answer 20 0 c ])
+    go (Now state) = fewer-uses (rewrite-adds key state (c .row))
+    go AtLimit = still
 
 -- ── rule 10: resize ──────────────────────────────────────────────────────────
 resize-balanced : (capacity : ℕ) (c : Cache) → Balanced (c .row) (onResize capacity c)
@@ -178,7 +204,7 @@ notify-balanced by (some e) c = both-ways (pageOne (e .page .key)) still still
 
 write-balanced : (key : ℕ) (state : PageRecord) (found : Option Entry) (c : Cache) → Balanced (c .row) (writeFound key state found c)
 write-balanced key state none c = still
-write-balanced key state (some e) c = fewer-uses (omega (arith, total-change 0 (rewritten state) (λ e. omega arith) key (c .row)))
+write-balanced key state (some e) c = fewer-uses (rewrite-adds key state (c .row))
 
 -- ── rules 13 and 14: spill ───────────────────────────────────────────────────
 selected-balanced : (ps : List Page) (c : Cache) → Balanced (c .row) (selected ps c)
@@ -202,6 +228,7 @@ act-balanced (create capacity) c = fewer-uses (omega arith)
 act-balanced (insert how key handle state places) c = insert-balanced key handle state how (find key (c .row)) c
 act-balanced (lookup key places) c = lookup-balanced key (find key (c .row)) c
 act-balanced (peek key touch) c = peek-balanced key touch (find key (c .row)) c
+act-balanced (release key) c = release-balanced key (find key (c .row)) c
 act-balanced (delete key places) c = delete-balanced (find key (c .row)) c
 act-balanced (resize capacity places) c = resize-balanced capacity c
 act-balanced (truncate limit places) c = delete-each-balanced (those (λ p. ltb limit (p .key)) (byKey (c .row))) c

@@ -17,6 +17,7 @@ pub data Call : Type 0 where
   insert : (how : Insertion) (key handle : ℕ) (state : PageRecord) (places : ℕ) → Call
   lookup : (key places : ℕ) → Call
   peek : (key : ℕ) (touch : Bool) → Call
+  release : (key : ℕ) → Call
   delete : (key places : ℕ) → Call
   resize : (capacity places : ℕ) → Call
   truncate : (limit places : ℕ) → Call

@@ -7,7 +7,7 @@ use lib.ListN.{length, drop}
 use Rattle.page.specs.declared.record.PageRecord.{PageRecord}
 use Rattle.model.specs.Row.{Row}
 use Rattle.model.specs.Cache.{Cache, fresh}
-use Rattle.model.specs.Call.{Call, Insertion, plain, forced, upsert, create, insert, lookup, peek, delete, resize, truncate, remove-frames, clear, notify-dirty, notify-spilled, write, spill, evict-one, switch, Outcome}
+use Rattle.model.specs.Call.{Call, Insertion, plain, forced, upsert, create, insert, lookup, peek, release, delete, resize, truncate, remove-frames, clear, notify-dirty, notify-spilled, write, spill, evict-one, switch, Outcome}
 use Rattle.model.specs.Step.{step, run, runTouches, runFalls}
 
 -- ── pages and calls ──────────────────────────────────────────────────────────
@@ -53,8 +53,9 @@ tagged frame = page 17 0 0 frame
 abbrev pub put : Insertion → PageRecord → ℕ → Call
 put how state k = insert how k (10 * k) state pool
 
+-- a touch that leaves no holder behind: an insertion that is answered 9
 abbrev pub touchAll : List ℕ → List Call
-touchAll ks = map (λ k. peek k true) ks
+touchAll ks = map (put plain clean) ks
 
 -- ── what is compared ─────────────────────────────────────────────────────────
 pub record Told : Type 0 where
@@ -188,8 +189,8 @@ sweeps =
     ∷ example 0 (put plain clean 5 ∷ put forced clean 5 ∷ []) (told 8 0 0 [] ∷ told 0 0 0 [] ∷ []) (left 0 1) unused (seat 5 0 ∷ [])
     -- an unloaded, unlocked, dirty key: insert answers 6
     ∷ example 2 (put plain unloadedDirty 5 ∷ put plain clean 5 ∷ []) (told 6 5 0 [] ∷ []) (left 2 0) unused (seat 5 0 ∷ [])
-    -- the replay program's example: the sweep takes a use of page 10 and then page 20
-    ∷ example 2 (map (put plain clean) (10 ∷ 20 ∷ []) ++ lookup 10 pool ∷ put plain clean 30 ∷ lookup 20 pool ∷ []) (told 0 100 0 [] ∷ told 0 0 1 (200 ∷ []) ∷ told 4 0 0 [] ∷ []) (left 2 2) (used 1 1) (seat 10 0 ∷ seat 30 0 ∷ [])
+    -- the replay program's example: the sweep passes page 10, which is held and keeps its use, and takes page 20
+    ∷ example 2 (map (put plain clean) (10 ∷ 20 ∷ []) ++ lookup 10 pool ∷ put plain clean 30 ∷ lookup 20 pool ∷ []) (told 0 100 0 [] ∷ told 0 0 1 (200 ∷ []) ∷ told 4 0 0 [] ∷ []) (left 2 2) (used 1 0) (seat 10 1 ∷ seat 30 0 ∷ [])
     -- a locked page is passed, and keeps its uses
     ∷ example 2 (put plain busy 5 ∷ put plain clean 6 ∷ touchAll (5 ∷ 6 ∷ []) ++ evict-one pool ∷ []) (told 0 0 3 (60 ∷ []) ∷ []) (left 2 1) (used 2 1) (seat 5 1 ∷ [])
     -- a pending resize keeps the capacity, and the eviction stands
@@ -211,13 +212,32 @@ pagesFound =
     -- upsert in place answers the old handle, keeps the place and adds a touch; the estimate follows the change
     ∷ example 2 (map (put plain clean) (5 ∷ 6 ∷ []) ++ insert upsert 6 66 changed pool ∷ []) (told 0 60 0 [] ∷ []) (left 2 1) (used 1 0) (seat 5 0 ∷ seat 6 1 ∷ [])
     -- a touch raises the count to 3 at most, and counts all the same
-    ∷ example 2 (put plain clean 5 ∷ touchAll (5 ∷ 5 ∷ 5 ∷ 5 ∷ [])) (told 0 50 0 [] ∷ []) (left 2 1) (used 4 0) (seat 5 3 ∷ [])
+    ∷ example 2 (put plain clean 5 ∷ touchAll (5 ∷ 5 ∷ 5 ∷ 5 ∷ [])) (told 9 0 0 [] ∷ []) (left 2 1) (used 4 0) (seat 5 3 ∷ [])
     -- a stale page: peek finds it, and touches it only if asked; lookup deletes it and answers 4. An absent key is 4 too
     ∷ example 2 (put plain unloaded 5 ∷ peek 5 false ∷ peek 5 true ∷ lookup 5 pool ∷ peek 5 true ∷ []) (told 0 50 0 [] ∷ told 0 50 0 [] ∷ told 4 0 0 (50 ∷ []) ∷ told 4 0 0 [] ∷ []) (left 2 0) (used 1 0) []
     -- deletion: 5 for a locked page, 6 for a dirty one, 7 for a pinned one, in that order; holders and page 1 don't stop it, and an
     -- absent key is done
     ∷ example 3 (put plain (page 7 1 0 0) 5 ∷ put plain (page 5 1 0 0) 6 ∷ put plain pinned 7 ∷ delete 5 pool ∷ delete 6 pool ∷ delete 7 pool ∷ []) (told 5 5 0 [] ∷ told 6 6 0 [] ∷ told 7 7 0 [] ∷ []) (left 3 1) unused (seat 5 0 ∷ seat 7 0 ∷ seat 6 0 ∷ [])
     ∷ example 3 (put plain clean 1 ∷ put plain held 5 ∷ put plain clean 6 ∷ delete 1 pool ∷ delete 5 pool ∷ delete 9 pool ∷ []) (told 0 0 0 (10 ∷ []) ∷ told 0 0 0 (50 ∷ []) ∷ told 0 0 0 [] ∷ []) (left 3 1) unused (seat 6 0 ∷ [])
+    ∷ []
+
+abbrev pub heldPages : List Example
+heldPages =
+    -- a page that was looked up stays until it is released: full, and then it goes
+    example 1 (put plain clean 5 ∷ lookup 5 pool ∷ put plain clean 6 ∷ release 5 ∷ put plain clean 6 ∷ []) (told 0 50 0 [] ∷ told 8 0 4 [] ∷ told 0 0 0 [] ∷ told 0 0 1 (50 ∷ []) ∷ []) (left 1 1) (used 1 1) (seat 6 0 ∷ [])
+    -- 20 at 65,535 holders, with no touch: of 65,534 one more is added
+    ∷ example 1 (put plain (page 1 0 65534 0) 5 ∷ lookup 5 pool ∷ lookup 5 pool ∷ peek 5 true ∷ peek 5 false ∷ []) (told 0 50 0 [] ∷ told 20 0 0 [] ∷ told 20 0 0 [] ∷ told 20 0 0 [] ∷ []) (left 1 1) (used 1 0) (seat 5 1 ∷ [])
+    -- but a lookup deletes a stale page first, however many hold it
+    ∷ example 1 (put plain (page 0 0 65535 0) 5 ∷ peek 5 true ∷ lookup 5 pool ∷ []) (told 20 0 0 [] ∷ told 4 0 0 (50 ∷ []) ∷ []) (left 1 0) unused []
+    -- a peek adds a holder to a stale page too, touch asked or not; one release for each, and then 20. An absent key is 4
+    ∷ example 1 (put plain unloaded 5 ∷ peek 5 false ∷ peek 5 true ∷ release 5 ∷ release 5 ∷ release 5 ∷ release 6 ∷ []) (told 0 0 0 [] ∷ told 0 0 0 [] ∷ told 20 0 0 [] ∷ told 4 0 0 [] ∷ []) (left 1 1) (used 1 0) (seat 5 1 ∷ [])
+    -- a release works on any page: on page 1, and on one that is locked, dirty and pinned
+    ∷ example 2 (put plain clean 1 ∷ put plain (page 7 1 1 0) 5 ∷ lookup 1 pool ∷ release 1 ∷ release 5 ∷ release 5 ∷ []) (told 0 0 0 [] ∷ told 0 0 0 [] ∷ told 20 0 0 [] ∷ []) (left 2 0) (used 1 0) (seat 1 1 ∷ seat 5 0 ∷ [])
+    -- it goes by key: after an upsert it takes from the page that stands there now
+    ∷ example 1 (put plain clean 5 ∷ lookup 5 pool ∷ insert upsert 5 51 clean pool ∷ release 5 ∷ []) (told 0 50 0 [] ∷ told 20 0 0 [] ∷ []) (left 1 1) (used 2 0) (seat 5 2 ∷ [])
+    -- an insertion that is answered 9 holds nothing, and a record write sets the holders as it sets the rest
+    ∷ example 1 (put plain clean 5 ∷ put plain clean 5 ∷ release 5 ∷ []) (told 9 0 0 [] ∷ told 20 0 0 [] ∷ []) (left 1 1) (used 1 0) (seat 5 1 ∷ [])
+    ∷ example 1 (put plain clean 5 ∷ lookup 5 pool ∷ write 5 clean ∷ release 5 ∷ []) (told 0 0 0 [] ∷ told 20 0 0 [] ∷ []) (left 1 1) (used 1 0) (seat 5 1 ∷ [])
     ∷ []
 
 abbrev pub manyPages : List Example
@@ -257,4 +277,4 @@ others =
     ∷ []
 
 abbrev pub examples : List Example
-examples = sweeps ++ pagesFound ++ manyPages ++ others
+examples = sweeps ++ pagesFound ++ heldPages ++ manyPages ++ others

@@ -7,7 +7,7 @@ use Rattle.page.specs.declared.record.PageRecord.{PageRecord}
 use Rattle.model.specs.Row.{Page, Entry, Row, Each}
 use Rattle.model.specs.Demand.{Limited}
 use Rattle.model.specs.Cache.{Cache, heldIn, estimateMax}
-use Rattle.model.specs.Call.{Call, create, insert, lookup, peek, delete, resize, truncate, remove-frames, clear, notify-dirty, notify-spilled, write, spill, evict-one, switch}
+use Rattle.model.specs.Call.{Call, create, insert, lookup, peek, release, delete, resize, truncate, remove-frames, clear, notify-dirty, notify-spilled, write, spill, evict-one, switch}
 
 -- no two entries of the row have the same number, which is their key, handle or slot
 abbrev pub Apart : (Page → ℕ) → Row → Type 0
@@ -46,6 +46,7 @@ ArgumentsInRange (create n) = Unit {0}
 ArgumentsInRange (insert how key handle p l) = (key < 2 ^ 32) × (handle < 2 ^ 32) × RecordInRange p
 ArgumentsInRange (lookup key l) = Unit {0}
 ArgumentsInRange (peek key touch) = Unit {0}
+ArgumentsInRange (release key) = Unit {0}
 ArgumentsInRange (delete key l) = Unit {0}
 ArgumentsInRange (resize n l) = Unit {0}
 ArgumentsInRange (truncate limit l) = Unit {0}

@@ -5,9 +5,10 @@ use mathlib.Core.Option.{Option, none, some}
 use Prim.Native.Nat.{ℕ}
 use lib.Dec.{eqb, ltb}
 use Rattle.page.specs.Cache.{pageOne}
-use Rattle.page.specs.Record.{dirty, tagged, stale, deletable}
+use Rattle.page.specs.Record.{dirty, tagged, stale, deletable, oneHolderMore, oneHolderLess}
 use Rattle.page.specs.declared.record.Deletable.the-variants.{Yes, Locked, Dirty, Pinned}
 use Rattle.page.specs.declared.record.PageRecord.{PageRecord}
+use Rattle.page.specs.declared.record.Recount.the-variants.{Now, AtLimit}
 use Rattle.model.specs.Row.{Page, Entry, Row, find, byKey, those}
 use Rattle.model.specs.Cache.{Cache, heldIn, withRow, withEstimate, withCapacity, up, down, newPage, enter, leave, touch, rewrite, replace}
 use Rattle.model.specs.Call.{Insertion, plain, forced, upsert, Outcome, answer, listing, touching}
@@ -73,14 +74,21 @@ module _ (key handle : ℕ) (state : PageRecord) where
   unfoldable pub onInsert : Insertion → Cache → Outcome
   onInsert how c = insertFound how (find key (c .row)) c
 
--- ── rule 9: lookup and peek ──────────────────────────────────────────────────
-abbrev pub hit : ℕ → Page → Cache → Outcome
-hit key p c = touching (answer 0 (p .handle) (touch key c))
+-- ── rule 9: lookup, peek and release ─────────────────────────────────────────
+-- a hit answers the handle and adds one holder, with a touch or without; if the record can't count one more, nothing is changed
+abbrev pub hit : ℕ → Bool → Page → Cache → Outcome
+hit key touches p c = elim (oneHolderMore (p .state)) [
+  | Now state ↦ elim touches [
+    | true ↦ touching (answer 0 (p .handle) (touch key (rewrite key state c)))
+    | false ↦ answer 0 (p .handle) (rewrite key state c)
+  ]
+  | AtLimit ↦ answer 20 0 c
+]
 
--- a page neither loaded nor locked is deleted, and the answer is 4
+-- a page neither loaded nor locked is deleted, and the answer is 4; any other is a hit, with a touch
 abbrev pub lookupFound : ℕ → Option Entry → Cache → Outcome
 lookupFound key none c = answer 4 0 c
-lookupFound key (some e) c = elim (stale (e .page .state)) [ true ↦ deleting (e .page) (answer 4 0) c | false ↦ hit key (e .page) c ]
+lookupFound key (some e) c = elim (stale (e .page .state)) [ true ↦ deleting (e .page) (answer 4 0) c | false ↦ hit key true (e .page) c ]
 
 abbrev pub onLookup : ℕ → Cache → Outcome
 onLookup key c = lookupFound key (find key (c .row)) c
@@ -88,10 +96,18 @@ onLookup key c = lookupFound key (find key (c .row)) c
 -- tests neither, and touches only if asked
 abbrev pub peekFound : ℕ → Bool → Option Entry → Cache → Outcome
 peekFound key asked none c = answer 4 0 c
-peekFound key asked (some e) c = elim asked [ true ↦ hit key (e .page) c | false ↦ answer 0 (e .page .handle) c ]
+peekFound key asked (some e) c = hit key asked (e .page) c
 
 abbrev pub onPeek : ℕ → Bool → Cache → Outcome
 onPeek key asked c = peekFound key asked (find key (c .row)) c
+
+-- takes one holder away, whatever else the record says; if there is none, nothing is changed
+abbrev pub releaseFound : ℕ → Option Entry → Cache → Outcome
+releaseFound key none c = answer 4 0 c
+releaseFound key (some e) c = elim (oneHolderLess (e .page .state)) [ Now state ↦ answer 0 0 (rewrite key state c) | AtLimit ↦ answer 20 0 c ]
+
+abbrev pub onRelease : ℕ → Cache → Outcome
+onRelease key c = releaseFound key (find key (c .row)) c
 
 -- ── rule 10: resize ──────────────────────────────────────────────────────────
 -- on Full answer 10, keeping capacity and threshold

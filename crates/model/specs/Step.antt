@@ -2,8 +2,8 @@
 use mathlib.Core.List.{List, [], _∷_}
 use Prim.Native.Nat.{ℕ, zero, suc, _+_}
 use Rattle.model.specs.Cache.{Cache, withSpill, fresh}
-use Rattle.model.specs.Call.{Call, create, insert, lookup, peek, delete, resize, truncate, remove-frames, clear, notify-dirty, notify-spilled, write, spill, evict-one, switch, Outcome, answer}
-use Rattle.model.specs.Rules.{onInsert, onLookup, onPeek, onDelete, onResize, onTruncate, onRemoveFrames, onClear, onDirty, onSpilled, onWrite, onEvictOne}
+use Rattle.model.specs.Call.{Call, create, insert, lookup, peek, release, delete, resize, truncate, remove-frames, clear, notify-dirty, notify-spilled, write, spill, evict-one, switch, Outcome, answer}
+use Rattle.model.specs.Rules.{onInsert, onLookup, onPeek, onRelease, onDelete, onResize, onTruncate, onRemoveFrames, onClear, onDirty, onSpilled, onWrite, onEvictOne}
 use Rattle.model.specs.Spill.{onSpill}
 use Rattle.model.specs.Tests.{refusal}
 
@@ -13,6 +13,7 @@ act (create capacity) c = answer 0 0 (fresh (c .size) capacity)
 act (insert how key handle state places) c = onInsert key handle state how c
 act (lookup key places) c = onLookup key c
 act (peek key touch) c = onPeek key touch c
+act (release key) c = onRelease key c
 act (delete key places) c = onDelete key c
 act (resize capacity places) c = onResize capacity c
 act (truncate limit places) c = onTruncate limit c

@@ -8,7 +8,7 @@ use Rattle.page.specs.Record.{allFlags}
 use Rattle.page.specs.declared.record.PageRecord.{PageRecord}
 use Rattle.model.specs.Row.{Row}
 use Rattle.model.specs.Cache.{Cache, heldIn}
-use Rattle.model.specs.Call.{Call, create, insert, lookup, peek, delete, resize, truncate, remove-frames, clear, notify-dirty, notify-spilled, write, spill, evict-one, switch}
+use Rattle.model.specs.Call.{Call, create, insert, lookup, peek, release, delete, resize, truncate, remove-frames, clear, notify-dirty, notify-spilled, write, spill, evict-one, switch}
 
 -- a key and the handle that is to stand under it
 pub record Naming : Type 0 where
@@ -27,6 +27,7 @@ asks (create n) = record { capacity = some n; state = none; places = none; namin
 asks (insert how key handle p l) = record { capacity = none; state = some p; places = some l; naming = some (record { key = key; handle = handle }) }
 asks (lookup key l) = record { capacity = none; state = none; places = some l; naming = none }
 asks (peek key touch) = record { capacity = none; state = none; places = none; naming = none }
+asks (release key) = record { capacity = none; state = none; places = none; naming = none }
 asks (delete key l) = record { capacity = none; state = none; places = some l; naming = none }
 asks (resize n l) = record { capacity = some n; state = none; places = some l; naming = none }
 asks (truncate limit l) = record { capacity = none; state = none; places = some l; naming = none }

@@ -8,11 +8,12 @@ use Prim.Native.Nat.{ℕ, zero, suc, _+_, _-_}
 use lib.Dec.{eqb}
 use lib.ListN.{length}
 use Rattle.page.specs.Entry.{raised}
-use Rattle.page.specs.Record.{stale, deletable}
+use Rattle.page.specs.Record.{stale, deletable, oneHolderMore}
 use Rattle.page.specs.declared.record.Deletable.the-variants.{Yes, Locked, Dirty, Pinned}
+use Rattle.page.specs.declared.record.Recount.the-variants.{Now, AtLimit}
 use Rattle.model.specs.Row.{Page, Entry, Row, find, total}
 use Rattle.model.specs.Cache.{Cache, leave, enterRow}
-use Rattle.model.specs.Call.{Insertion, plain, forced, upsert, Call, create, insert, lookup, peek, delete, resize, truncate, remove-frames, clear, notify-dirty, notify-spilled, write, spill, evict-one, switch, Outcome}
+use Rattle.model.specs.Call.{Insertion, plain, forced, upsert, Call, create, insert, lookup, peek, release, delete, resize, truncate, remove-frames, clear, notify-dirty, notify-spilled, write, spill, evict-one, switch, Outcome}
 use Rattle.model.specs.Tests.{refusal}
 use Rattle.model.specs.Rooms.{Room}
 use Rattle.model.specs.Evictions.{EvictsTo}
@@ -62,14 +63,18 @@ insertEffect how handle (some e) c = elim (stale (e .page .state)) [
   | false ↦ presentEffect how handle (e .page)
 ]
 
--- rule 9. A lookup touches a page that is loaded or locked, and `peek` any page if asked
+-- rule 9. A hit that is to touch its page does so, unless the page can't have one holder more
+abbrev pub hitEffect : Bool → Page → Effect
+hitEffect asked p = elim (oneHolderMore (p .state)) [ Now state ↦ elim asked [ true ↦ touches p | false ↦ neither ] | AtLimit ↦ neither ]
+
+-- a lookup is to touch a page that is loaded or locked, and `peek` any page if asked
 abbrev pub lookupEffect : Option Entry → Effect
 lookupEffect none = neither
-lookupEffect (some e) = elim (stale (e .page .state)) [ true ↦ neither | false ↦ touches (e .page) ]
+lookupEffect (some e) = elim (stale (e .page .state)) [ true ↦ neither | false ↦ hitEffect true (e .page) ]
 
 abbrev pub peekEffect : Bool → Option Entry → Effect
 peekEffect asked none = neither
-peekEffect asked (some e) = elim asked [ true ↦ touches (e .page) | false ↦ neither ]
+peekEffect asked (some e) = hitEffect asked (e .page)
 
 -- rule 10. To the same capacity does nothing
 abbrev pub resizeEffect : ℕ → Cache → Effect
@@ -86,6 +91,7 @@ ruleEffect (create capacity) c = neither
 ruleEffect (insert how key handle state places) c = insertEffect how handle (find key (c .row)) c
 ruleEffect (lookup key places) c = lookupEffect (find key (c .row))
 ruleEffect (peek key asked) c = peekEffect asked (find key (c .row))
+ruleEffect (release key) c = neither
 ruleEffect (delete key places) c = neither
 ruleEffect (resize capacity places) c = resizeEffect capacity c
 ruleEffect (truncate limit places) c = neither

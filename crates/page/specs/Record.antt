@@ -1,11 +1,13 @@
 -- What a page record says of its page (01, "Memory, pages and numbers", and rules 6, 8 and 9).
 use mathlib.Core.Bool.{Bool, cond, not, _&&_, _||_}
-use Prim.Native.Nat.{ℕ}
+use Prim.Native.Nat.{ℕ, _+_, _-_}
 use lib.Bits.{bitAnd}
-use lib.Dec.{eqb}
+use lib.Dec.{eqb, ltb}
 use Rattle.page.specs.declared.record.PageRecord.{PageRecord}
 use Rattle.page.specs.declared.record.Deletable.{Deletable}
 use Rattle.page.specs.declared.record.Deletable.the-variants.{Yes, Locked, Dirty, Pinned}
+use Rattle.page.specs.declared.record.Recount.{Recount}
+use Rattle.page.specs.declared.record.Recount.the-variants.{Now, AtLimit}
 
 -- ── flags: 1 loaded, 2 locked, 4 dirty, 8 spilled, 16 WAL tag ────────────────
 -- the sum of them all
@@ -38,6 +40,20 @@ pinned p = not (eqb (p .pins) 0)
 -- somebody other than the cache holds the page
 abbrev pub held : PageRecord → Bool
 held p = not (eqb (p .holders) 0)
+
+-- a record counts at most this many holders
+abbrev pub holdersMax : ℕ
+holdersMax = 65535
+
+abbrev pub withHolders : PageRecord → ℕ → PageRecord
+withHolders p n = record { flags = p .flags; pins = p .pins; holders = n; cells = p .cells; frame = p .frame }
+
+-- rule 9: the record with one holder more, unless it has as many as it can count; and with one less, unless it has none
+abbrev pub oneHolderMore : PageRecord → Recount
+oneHolderMore p = cond (ltb (p .holders) holdersMax) (Now (withHolders p (p .holders + 1))) AtLimit
+
+abbrev pub oneHolderLess : PageRecord → Recount
+oneHolderLess p = cond (ltb 0 (p .holders)) (Now (withHolders p (p .holders - 1))) AtLimit
 
 -- ── what the rules ask ───────────────────────────────────────────────────────
 -- neither loaded nor locked

@@ -20,3 +20,4 @@ pub use names::PageHandle;
 pub use names::Slot;
 pub use record::Deletable;
 pub use record::PageRecord;
+pub use record::Recount;

@@ -1,9 +1,10 @@
-// A page's record: what the caller says of a page. The cache stores it and looks at it, and never changes it.
+// A page's record: what the caller says of a page. The cache stores it and looks at it, and changes nothing of it but the
+// holders: whoever looks a page up holds it until it is released.
 //
 // Tests are joined by `&` and `|`, not by `&&` and `||`: each is a load and a mask, and a sweep asks them of every page
 // that it passes, where one test without branches costs less than several with.
 ghost use mathlib.Core.Path.{_≡_};
-ghost use Rattle.page.specs.Record.{loaded, locked, dirty, spilled, tagged, pinned, held, stale, cleanOrSpilled, deletable};
+ghost use Rattle.page.specs.Record.{loaded, locked, dirty, spilled, tagged, pinned, held, stale, cleanOrSpilled, deletable, oneHolderMore, oneHolderLess};
 
 pub struct PageRecord {
     // A sum of the flags below, 0 to 31 in a good record.
@@ -26,6 +27,12 @@ pub enum Deletable {
     Pinned,
 }
 
+// The record with another number of holders, or that there is no such number.
+pub enum Recount {
+    Now(PageRecord),
+    AtLimit,
+}
+
 impl PageRecord {
     pub const LOADED: u8 = 1;
 
@@ -38,6 +45,8 @@ impl PageRecord {
     pub const WAL_TAG: u8 = 16;
     // All flags together: a record with any other bit set is bad.
     pub const ALL_FLAGS: u8 = 31;
+    // The most holders that a record can count.
+    pub const MAX_HOLDERS: u16 = 65535;
 
     pub fn is_loaded(self) -> bool
         ensures { λ r. ⌜ r ≡ loaded self ⌝ }
@@ -79,6 +88,28 @@ impl PageRecord {
         ensures { λ r. ⌜ r ≡ held self ⌝ }
     {
         self.holders != 0
+    }
+
+    // The record for one who holds the page from now on.
+    pub fn one_holder_more(mut self) -> Recount
+        ensures { λ r. ⌜ r ≡ oneHolderMore self ⌝ }
+    {
+        if self.holders < Self::MAX_HOLDERS {
+            self.holders += 1;
+            return Recount::Now(self);
+        }
+        Recount::AtLimit
+    }
+
+    // The record once one of its holders let go.
+    pub fn one_holder_less(mut self) -> Recount
+        ensures { λ r. ⌜ r ≡ oneHolderLess self ⌝ }
+    {
+        if 0 < self.holders {
+            self.holders -= 1;
+            return Recount::Now(self);
+        }
+        Recount::AtLimit
     }
 
     // Neither loaded nor locked: a read that was given up leaves a page so, and no lookup may hand it out.
