@@ -10,7 +10,7 @@ use Rattle.model.specs.Call.{Outcome}
 use Rattle.memory.specs.Memory.{Memory}
 use Rattle.memory.proofs.Once.{holds-memory}
 use Rattle.answer.specs.declared.answer.Answer.{Answer}
-use Rattle.answer.specs.declared.answer.Answer.the-variants.{Done, NotSound, BadRecord, ShortList, Absent, Locked, Dirty, Pinned, Full, KeyExists, PendingEvictions, OtherPage, HandleElsewhere, NoSlot, Empty, TooLarge, BadLengths, BadReplay, NotNeeded, NoneSelected}
+use Rattle.answer.specs.declared.answer.Answer.the-variants.{Done, NotSound, BadRecord, ShortList, Absent, Locked, Dirty, Pinned, Full, KeyExists, PendingEvictions, OtherPage, HandleElsewhere, NoSlot, Empty, TooLarge, BadLengths, BadReplay, NotNeeded, NoneSelected, HolderLimit}
 use Rattle.answer.specs.declared.answered.Answered.{Answered}
 use Rattle.answer.specs.Answer.{codeOf, valueOf, MatchesOutcome}
 
@@ -18,7 +18,7 @@ use Rattle.answer.specs.Answer.{codeOf, valueOf, MatchesOutcome}
 abbrev answersOf : ℕ → List Answer
 answersOf v =
     Done v ∷ NotSound ∷ BadRecord ∷ ShortList ∷ Absent ∷ Locked (record { 0 = v }) ∷ Dirty (record { 0 = v }) ∷ Pinned (record { 0 = v }) ∷ Full
-    ∷ KeyExists ∷ PendingEvictions ∷ OtherPage ∷ HandleElsewhere ∷ NoSlot ∷ Empty ∷ TooLarge ∷ BadLengths ∷ BadReplay ∷ NotNeeded ∷ NoneSelected ∷ []
+    ∷ KeyExists ∷ PendingEvictions ∷ OtherPage ∷ HandleElsewhere ∷ NoSlot ∷ Empty ∷ TooLarge ∷ BadLengths ∷ BadReplay ∷ NotNeeded ∷ NoneSelected ∷ HolderLimit ∷ []
 
 abbrev readOff : ℕ → ℕ → Answer
 readOff code v = getD (answersOf v) code (Done 0)
@@ -44,6 +44,7 @@ read-off BadLengths = refl
 read-off BadReplay = refl
 read-off NotNeeded = refl
 read-off NoneSelected = refl
+read-off HolderLimit = refl
 
 pub answer-once : (a b : Answer) → codeOf a ≡ codeOf b → valueOf a ≡ valueOf b → a ≡ b
 answer-once a b code value = sym (read-off a) ∙ ap (λ (n : ℕ). readOff n (valueOf a)) code ∙ ap (readOff (codeOf b)) value ∙ read-off b

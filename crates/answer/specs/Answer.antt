@@ -11,7 +11,7 @@ use Rattle.model.specs.Call.{Outcome}
 use Rattle.memory.specs.Memory.{Memory}
 use Rattle.memory.specs.Holds.{Holds, Sound}
 use Rattle.answer.specs.declared.answer.Answer.{Answer}
-use Rattle.answer.specs.declared.answer.Answer.the-variants.{Done, NotSound, BadRecord, ShortList, Absent, Locked, Dirty, Pinned, Full, KeyExists, PendingEvictions, OtherPage, HandleElsewhere, NoSlot, Empty, TooLarge, BadLengths, BadReplay, NotNeeded, NoneSelected}
+use Rattle.answer.specs.declared.answer.Answer.the-variants.{Done, NotSound, BadRecord, ShortList, Absent, Locked, Dirty, Pinned, Full, KeyExists, PendingEvictions, OtherPage, HandleElsewhere, NoSlot, Empty, TooLarge, BadLengths, BadReplay, NotNeeded, NoneSelected, HolderLimit}
 use Rattle.answer.specs.declared.answered.Answered.{Answered}
 
 -- 01's answer codes
@@ -36,6 +36,7 @@ codeOf BadLengths = 16
 codeOf BadReplay = 17
 codeOf NotNeeded = 18
 codeOf NoneSelected = 19
+codeOf HolderLimit = 20
 
 -- found handle, replaced handle, refusing key, number selected, else 0
 abbrev pub valueOf : Answer → ℕ
@@ -59,6 +60,7 @@ valueOf BadLengths = 0
 valueOf BadReplay = 0
 valueOf NotNeeded = 0
 valueOf NoneSelected = 0
+valueOf HolderLimit = 0
 
 -- the answer to a deletion that is refused for this reason
 abbrev pub refusedAs : PageCacheKey → Deletable → Answer

@@ -1,4 +1,4 @@
--- The contract of a call that looks at one page in its place (`peek`, the notices, the record write) and is lent two parts of the
+-- The contract of a call that looks at one page in its place (`peek`, `release_page`, the notices, the record write) and is lent two parts of the
 -- memory for it, the slots and the index by key: whatever the other parts are, it came to the outcome of the model's `step`.
 use mathlib.Core.List.{List}
 use Prim.Native.Nat.{ℕ}

@@ -43,6 +43,8 @@ pub enum Answer {
     NotNeeded,
     // 19. A spill is needed, and no page was selected.
     NoneSelected,
+    // 20. A lookup would add a holder to a page that has 65,535, or a release would take one away from a page that has none.
+    HolderLimit,
 }
 
 impl Answer {

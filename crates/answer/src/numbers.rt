@@ -3,7 +3,7 @@ use crate::answer::Answer;
 ghost use mathlib.Core.Path.{_≡_};
 ghost use Rattle.answer.specs.Answer.{codeOf, valueOf};
 
-// The number of the answer, 0 to 19.
+// The number of the answer, 0 to 20.
 pub fn code_of(answer: Answer) -> u8
     ensures { λ r. ⌜ r ≡ codeOf answer ⌝ }
 {
@@ -28,6 +28,7 @@ pub fn code_of(answer: Answer) -> u8
         Answer::BadReplay => 17,
         Answer::NotNeeded => 18,
         Answer::NoneSelected => 19,
+        Answer::HolderLimit => 20,
     }
 }
 
@@ -56,5 +57,6 @@ pub fn value_of(answer: Answer) -> u32
         Answer::BadReplay => 0,
         Answer::NotNeeded => 0,
         Answer::NoneSelected => 0,
+        Answer::HolderLimit => 0,
     }
 }

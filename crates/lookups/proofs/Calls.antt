@@ -1,35 +1,90 @@
--- Rule 9: a lookup that passes its test does what the rule says of the entry that the search found, or of none.
+-- Rule 9: a call that passes its tests does what the rule says of the entry that the search found, or of none.
 use mathlib.Core.Path.{_≡_, refl, sym, ap, _∙_, subst}
-use mathlib.Core.Bool.{Bool, true, false}
-use mathlib.Core.List.{List}
+use mathlib.Core.Bool.{Bool, true, false, cond}
+use mathlib.Core.List.{List, []}
 use mathlib.Core.Option.{Option, none, some}
-use Prim.Native.Nat.{ℕ, _≤_, _<_}
+use Prim.Native.Nat.{ℕ, _+_, _-_, _≤_, _<_}
+use native.Mathlib.Omega.{arith}
+use lib.Dec.{ltb}
 use lib.ListN.{length, getD}
-use Rattle.page.specs.Record.{stale}
+use Rattle.page.specs.Record.{allFlags, holdersMax, stale, withHolders, oneHolderMore, oneHolderLess}
 use Rattle.page.specs.declared.cache.PageCache.{PageCache}
 use Rattle.page.specs.declared.entry.PageCacheEntry.{PageCacheEntry}
+use Rattle.page.specs.declared.record.PageRecord.{PageRecord}
+use Rattle.page.specs.declared.record.Recount.{Recount}
+use Rattle.page.specs.declared.record.Recount.the-variants.{Now, AtLimit}
 use Rattle.pool.specs.Slots.{blank, entries}
-use Rattle.model.specs.Cache.{Cache, touch}
-use Rattle.model.specs.Call.{Outcome, lookup, peek, answer}
-use Rattle.model.specs.Row.{Entry, find}
-use Rattle.model.specs.Rules.{deleting, hit, lookupFound, peekFound}
+use Rattle.model.specs.Cache.{Cache, touch, rewrite}
+use Rattle.model.specs.Call.{Outcome, lookup, peek, release, answer, touching}
+use Rattle.model.specs.Row.{Page, Entry, find}
+use Rattle.model.specs.Rules.{deleting, hit, lookupFound, peekFound, releaseFound}
 use Rattle.model.specs.Step.{act, step}
 use Rattle.memory.specs.Memory.{Memory}
-use Rattle.memory.specs.Holds.{Holds}
+use Rattle.memory.specs.Holds.{Holds, seen}
+use Rattle.memory.proofs.Standing.{found-good}
 use Rattle.answer.specs.Answer.{plainly, Follows, MatchesOutcome}
-use Rattle.answer.specs.declared.answer.Answer.the-variants.{Done, ShortList, Absent}
+use Rattle.answer.specs.declared.answer.Answer.the-variants.{Done, ShortList, Absent, HolderLimit}
 use Rattle.answer.specs.declared.answered.Answered.{Answered}
-use Rattle.answer.proofs.Steps.{step-acts, step-short-list, list-short, list-long, follows-as, comes-as, plain-follows, plain-comes, touching-follows, touching-comes}
+use Rattle.answer.proofs.Steps.{step-acts, step-short-list, list-short, list-long, follows-as, comes-as, plain-follows, plain-comes, unlisted-comes, touching-follows}
 use Rattle.moves.specs.Moves.{StandsAt}
 use Rattle.deletion.proofs.Deleting.{stored-is}
+use Rattle.lookups.specs.Hit.{CanHit}
+
+-- ── one holder more or less ──────────────────────────────────────────────────
+-- the flags stay
+abbrev SameFlags : PageRecord → Recount → Type 0
+SameFlags p (Now state) = state .flags ≡ p .flags
+SameFlags p AtLimit = Unit {0}
+
+same-flags : (p : PageRecord) (n : ℕ) (b : Bool) → SameFlags p (cond b (Now (withHolders p n)) AtLimit)
+same-flags p n true = refl
+same-flags p n false = tt
+
+more-flags : (p : PageRecord) → SameFlags p (oneHolderMore p)
+more-flags p = same-flags p (p .holders + 1) (ltb (p .holders) holdersMax)
+
+less-flags : (p : PageRecord) → SameFlags p (oneHolderLess p)
+less-flags p = same-flags p (p .holders - 1) (ltb 0 (p .holders))
+
+-- ── a hit ────────────────────────────────────────────────────────────────────
+module _ (key : ℕ) (asked : Bool) (p : Page) (c : Cache) where
+  abbrev hitWith : Recount → Outcome
+  hitWith r = elim r [
+    | Now state ↦ elim asked [
+      | true ↦ touching (answer 0 (p .handle) (touch key (rewrite key state c)))
+      | false ↦ answer 0 (p .handle) (rewrite key state c)
+    ]
+    | AtLimit ↦ answer 20 0 c
+  ]
+
+  hit-is : {r : Recount} → oneHolderMore (p .state) ≡ r → hit key asked p c ≡ hitWith r
+  hit-is is = ap hitWith is
+
+-- it lists nothing
+abbrev Unlisted : Outcome → Type 0
+Unlisted o = o .listed ≡ []
+
+hit-unlisted : (key : ℕ) (asked : Bool) (p : Page) (c : Cache) → Unlisted (hit key asked p c)
+hit-unlisted key asked p c = go (oneHolderMore (p .state)) asked
+  where
+    go : (r : Recount) (b : Bool) → Unlisted (hitWith key b p c r)
+    go (Now state) true = refl
+    go (Now state) false = refl
+    go AtLimit b = refl
 
 -- ── by what was found ────────────────────────────────────────────────────────
 module _ (key : ℕ) (c : Cache) {found : Option Entry} (is : find key (c .row) ≡ found) where
-  peek-found : (asked : Bool) → step (peek key asked) c ≡ peekFound key asked found c
+  pub peek-found : (asked : Bool) → step (peek key asked) c ≡ peekFound key asked found c
   unfolding act
   peek-found asked =
       step-acts (peek key asked) (record { capacity = refl; state = refl; places = refl; naming = refl })
       ∙ ap {B = Outcome} (λ (x : Option Entry). peekFound key asked x c) is
+
+  release-found : step (release key) c ≡ releaseFound key found c
+  unfolding act
+  release-found =
+      step-acts (release key) (record { capacity = refl; state = refl; places = refl; naming = refl })
+      ∙ ap {B = Outcome} (λ (x : Option Entry). releaseFound key x c) is
 
   module _ {m : Memory} {head : PageCache} {places : ℕ} (H : Holds m head c) (long : head .held ≤ places) where
     lookup-found : step (lookup key places) c ≡ lookupFound key found c
@@ -42,46 +97,86 @@ module _ (key : ℕ) (c : Cache) {found : Option Entry} (is : find key (c .row) 
 found-stale : (key : ℕ) (e : Entry) (c : Cache) → stale (e .page .state) ≡ true → lookupFound key (some e) c ≡ deleting (e .page) (answer 4 0) c
 found-stale key e c is = rw (is, lookupFound)
 
-found-fresh : (key : ℕ) (e : Entry) (c : Cache) → stale (e .page .state) ≡ false → lookupFound key (some e) c ≡ hit key (e .page) c
+found-fresh : (key : ℕ) (e : Entry) (c : Cache) → stale (e .page .state) ≡ false → lookupFound key (some e) c ≡ hit key true (e .page) c
 found-fresh key e c is = rw (is, lookupFound)
 
-module _ {m : Memory} {head : PageCache} {c : Cache} (H : Holds m head c) (key : ℕ) where
+-- ── the page at the slot ─────────────────────────────────────────────────────
+module _ {m : Memory} {head : PageCache} {c : Cache} {key s : ℕ} {e : Entry} (H : Holds m head c) (at : StandsAt (c .row) key s e)
+    {stored : PageCacheEntry} (loaded : stored ≡ getD (entries (m .slots)) s blank) where
+  pub can-hit : CanHit (m .slots) head s stored
+  can-hit = record { by-key = m .by-key; by-handle = m .by-handle; marks = m .marks; cache = c; key = key; entry = e; holds = H; stands = at; loaded = loaded }
+
+  -- the record with another number of holders is as good as the one that was loaded
+  recount-good : {r : Recount} {state : PageRecord} → SameFlags (stored .page) r → r ≡ Now state → state .flags ≤ allFlags
+  recount-good same is =
+      let kept = subst (SameFlags (stored .page)) is same in
+      let good = subst (λ (x : Entry). x .page .state .flags ≤ allFlags) (sym (stored-is H at loaded)) (found-good H key (at .found) (at .slot) .flags) in
+      omega (arith, kept, good)
+
+  pub more-good : {r : Recount} {state : PageRecord} → r ≡ oneHolderMore (stored .page) → r ≡ Now state → state .flags ≤ allFlags
+  more-good counted is = recount-good (rw counted (more-flags (stored .page))) is
+
+  pub less-good : {r : Recount} {state : PageRecord} → r ≡ oneHolderLess (stored .page) → r ≡ Now state → state .flags ≤ allFlags
+  less-good counted is = recount-good (rw counted (less-flags (stored .page))) is
+
+  module _ (asked : Bool) {r : Recount} (counted : r ≡ oneHolderMore (stored .page)) where
+    hit-comes : {m′ : Memory} {a : Answered} → Follows (hitWith key asked (seen s stored .page) c r) m′ a → Follows (hit key asked (e .page) c) m′ a
+    hit-comes {m′} {a} f =
+        subst (λ (x : Entry). Follows (hit key asked (x .page) c) m′ a) (stored-is H at loaded)
+        (follows-as (hit-is key asked (seen s stored .page) c (sym counted)) f)
+
+    pub hit-limit : r ≡ AtLimit → Follows (hit key asked (e .page) c) m (plainly HolderLimit head)
+    hit-limit is = hit-comes (rw is (plain-follows HolderLimit H))
+
+    module _ {state : PageRecord} (is : r ≡ Now state) {m′ : Memory} where
+      pub hit-seen : asked ≡ false → Holds m′ head (rewrite key state c) → Follows (hit key asked (e .page) c) m′ (plainly (Done (stored .handle .0)) head)
+      hit-seen unasked held = hit-comes (rw (is, unasked) (plain-follows (Done (stored .handle .0)) held))
+
+      pub hit-touched : asked ≡ true → Holds m′ head (touch key (rewrite key state c))
+          → Follows (hit key asked (e .page) c) m′ (plainly (Done (stored .handle .0)) head)
+      hit-touched told held = hit-comes (rw (is, told) (touching-follows (plain-follows (Done (stored .handle .0)) held)))
+
+  -- ── release ────────────────────────────────────────────────────────────────
+  module _ {r : Recount} (counted : r ≡ oneHolderLess (stored .page)) where
+    release-comes : {m′ : Memory} {a : Answered}
+        → Follows (elim r [ Now state ↦ answer 0 0 (rewrite key state c) | AtLimit ↦ answer 20 0 c ]) m′ a
+        → Follows (step (release key) c) m′ a
+    release-comes {m′} {a} f =
+        follows-as (release-found key c (at .found))
+        (subst (λ (x : Entry). Follows (releaseFound key (some x) c) m′ a) (stored-is H at loaded)
+        (rw counted at f))
+
+    pub release-limit : r ≡ AtLimit → Follows (step (release key) c) m (plainly HolderLimit head)
+    release-limit is = release-comes (rw is (plain-follows HolderLimit H))
+
+    pub release-done : {state : PageRecord} {m′ : Memory} → r ≡ Now state → Holds m′ head (rewrite key state c)
+        → Follows (step (release key) c) m′ (plainly (Done 0) head)
+    release-done is left = release-comes (rw is (plain-follows (Done 0) left))
+
   -- ── get ────────────────────────────────────────────────────────────────────
+  module _ {list : List ℕ} (long : head .held ≤ length list) {m′ : Memory} {a : Answered} where
+    pub lookup-stale : {list′ : List ℕ} → stale (stored .page) ≡ true → MatchesOutcome (deleting (e .page) (answer 4 0) c) list m′ list′ a
+        → MatchesOutcome (step (lookup key (length list)) c) list m′ list′ a
+    lookup-stale is comes =
+        comes-as (lookup-found key c (at .found) H long ∙ found-stale key e c (ap (λ (x : Entry). stale (x .page .state)) (sym (stored-is H at loaded)) ∙ is)) comes
+
+    pub lookup-hit : stale (stored .page) ≡ false → Follows (hit key true (e .page) c) m′ a
+        → MatchesOutcome (step (lookup key (length list)) c) list m′ list a
+    lookup-hit is comes =
+        comes-as (lookup-found key c (at .found) H long ∙ found-fresh key e c (ap (λ (x : Entry). stale (x .page .state)) (sym (stored-is H at loaded)) ∙ is))
+        (unlisted-comes comes (hit-unlisted key true (e .page) c))
+
+-- ── no page ──────────────────────────────────────────────────────────────────
+module _ {m : Memory} {head : PageCache} {c : Cache} (H : Holds m head c) (key : ℕ) where
   pub lookup-short : {list : List ℕ} → length list < head .held → MatchesOutcome (step (lookup key (length list)) c) list m list (plainly ShortList head)
   lookup-short {list} short = comes-as (step-short-list (lookup key (length list)) refl refl (list-short H short)) (plain-comes ShortList H list)
 
-  module _ {list : List ℕ} (long : head .held ≤ length list) where
-    pub lookup-absent : find key (c .row) ≡ none → MatchesOutcome (step (lookup key (length list)) c) list m list (plainly Absent head)
-    lookup-absent absent = comes-as (lookup-found key c absent H long) (plain-comes Absent H list)
+  module _ (absent : find key (c .row) ≡ none) where
+    pub lookup-absent : {list : List ℕ} → head .held ≤ length list → MatchesOutcome (step (lookup key (length list)) c) list m list (plainly Absent head)
+    lookup-absent {list} long = comes-as (lookup-found key c absent H long) (plain-comes Absent H list)
 
-    module _ {s : ℕ} {e : Entry} (at : StandsAt (c .row) key s e) {m′ : Memory} {stored : PageCacheEntry}
-        (loaded : stored ≡ getD (entries (m .slots)) s blank) where
-      pub lookup-stale : {list′ : List ℕ} {r : Answered} → stale (stored .page) ≡ true → MatchesOutcome (deleting (e .page) (answer 4 0) c) list m′ list′ r
-          → MatchesOutcome (step (lookup key (length list)) c) list m′ list′ r
-      lookup-stale is comes =
-          comes-as (lookup-found key c (at .found) H long ∙ found-stale key e c (ap (λ (x : Entry). stale (x .page .state)) (sym (stored-is H at loaded)) ∙ is)) comes
+    pub peek-absent : (asked : Bool) → Follows (step (peek key asked) c) m (plainly Absent head)
+    peek-absent asked = follows-as (peek-found key c absent asked) (plain-follows Absent H)
 
-      pub lookup-hit : stale (stored .page) ≡ false → Holds m′ head (touch key c)
-          → MatchesOutcome (step (lookup key (length list)) c) list m′ list (plainly (Done (stored .handle .0)) head)
-      lookup-hit is touched =
-          comes-as (lookup-found key c (at .found) H long ∙ found-fresh key e c (ap (λ (x : Entry). stale (x .page .state)) (sym (stored-is H at loaded)) ∙ is))
-          (subst (λ (x : Entry). MatchesOutcome (hit key (x .page) c) list m′ list (plainly (Done (stored .handle .0)) head)) (stored-is H at loaded)
-          (touching-comes (plain-comes (Done (stored .handle .0)) touched list)))
-
-  -- ── peek ───────────────────────────────────────────────────────────────────
-  pub peek-absent : (asked : Bool) → find key (c .row) ≡ none → Follows (step (peek key asked) c) m (plainly Absent head)
-  peek-absent asked absent = follows-as (peek-found key c absent asked) (plain-follows Absent H)
-
-  module _ {s : ℕ} {e : Entry} (at : StandsAt (c .row) key s e) {stored : PageCacheEntry} (loaded : stored ≡ getD (entries (m .slots)) s blank) where
-    pub peek-seen : (asked : Bool) → asked ≡ false → Follows (step (peek key asked) c) m (plainly (Done (stored .handle .0)) head)
-    peek-seen asked is =
-        follows-as (ap {B = Outcome} (λ (x : Bool). step (peek key x) c) is ∙ peek-found key c (at .found) false)
-        (subst (λ (x : Entry). Follows (answer 0 (x .page .handle) c) m (plainly (Done (stored .handle .0)) head)) (stored-is H at loaded)
-        (plain-follows (Done (stored .handle .0)) H))
-
-    pub peek-touched : (asked : Bool) → asked ≡ true → {m′ : Memory} → Holds m′ head (touch key c)
-        → Follows (step (peek key asked) c) m′ (plainly (Done (stored .handle .0)) head)
-    peek-touched asked is {m′} touched =
-        follows-as (ap {B = Outcome} (λ (x : Bool). step (peek key x) c) is ∙ peek-found key c (at .found) true)
-        (subst (λ (x : Entry). Follows (hit key (x .page) c) m′ (plainly (Done (stored .handle .0)) head)) (stored-is H at loaded)
-        (touching-follows (plain-follows (Done (stored .handle .0)) touched)))
+    pub release-absent : Follows (step (release key) c) m (plainly Absent head)
+    release-absent = follows-as (release-found key c absent) (plain-follows Absent H)

@@ -157,17 +157,25 @@ module _ {slots by-key by-handle marks : List ℕ} {head : PageCache} {c : Cache
       changed-alone H at st (record { next = refl; prev = refl; spare = refl; key = refl }) (rewritten page) (ap {B = Entry} (rewritten page) entry-is)
       (record { flags = flags; uses = good-e .uses }) refl
 
--- ── an upsert touches first ──────────────────────────────────────────────────
--- the entry stands where it stood
-pub stands-touched : {row : Row} {key s : ℕ} {e : Entry} → StandsAt row key s e → StandsAt (change key touched row) key s (touched e)
-stands-touched {row} {key} {s} {e} at =
-    let f = find-stands key row e (at .found) in
+-- ── one change after another ─────────────────────────────────────────────────
+-- an entry that keeps its key and its slot stands where it stood
+stands-still : {row : Row} {key s : ℕ} {e : Entry} → StandsAt row key s e → (f : Entry → Entry) → f e .page .key ≡ e .page .key
+    → f e .page .slot ≡ e .page .slot → StandsAt (change key f row) key s (f e)
+stands-still {row} {key} {s} {e} at f same-key same-slot =
+    let there = find-stands key row e (at .found) in
     record {
-      found = stands-find key (change key touched row) (touched e) (stands-changed key row e f touched (f .named));
-      slot = at .slot;
+      found = stands-find key (change key f row) (f e) (stands-changed key row e there f (same-key ∙ there .named));
+      slot = same-slot ∙ at .slot;
     }
 
--- and the handle stands where it stood
+pub stands-touched : {row : Row} {key s : ℕ} {e : Entry} → StandsAt row key s e → StandsAt (change key touched row) key s (touched e)
+stands-touched at = stands-still at touched refl refl
+
+pub stands-rewritten : {row : Row} {key s : ℕ} {e : Entry} (state : PageRecord) → StandsAt row key s e
+    → StandsAt (change key (rewritten state) row) key s (rewritten state e)
+stands-rewritten state at = stands-still at (rewritten state) refl refl
+
+-- and a touch leaves its handle where it stood
 pub free-touched : (key handle : ℕ) (row : Row) (e : Entry) → find key row ≡ some e → underOther key handle row ≡ false
     → underOther key handle (change key touched row) ≡ false
 free-touched key handle row e found free =

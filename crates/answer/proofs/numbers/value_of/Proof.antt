@@ -63,6 +63,9 @@ returns-19 c = rw (c .enum-told15 .given .1)
 returns-20 : tie.Need-returns-20
 returns-20 c = rw (c .enum-told16 .given .1)
 
+returns-21 : tie.Need-returns-21
+returns-21 c = rw (c .enum-told17 .given .1)
+
 pub value-of-spec : {M : Type 1} → statement M
 value-of-spec =
     tie.close
@@ -70,7 +73,7 @@ value-of-spec =
     (λ c. search needs) (λ c. search needs) (λ c. search needs) (λ c. search needs) (λ c. search needs) (λ c. search needs)
     (λ c. search needs) (λ c. search needs) (λ c. search needs) (λ c. search needs) (λ c. search needs) (λ c. search needs)
     (λ c. search needs) (λ c. search needs) (λ c. search needs) (λ c. search needs) (λ c. search needs) (λ c. search needs)
-    (λ c. search needs) (λ c. search needs)
+    (λ c. search needs) (λ c. search needs) (λ c. search needs)
     returns
     returns-2
     returns-3
@@ -90,4 +93,5 @@ value-of-spec =
     returns-17
     returns-18
     returns-19
-    returns-20)
+    returns-20
+    returns-21)

@@ -1,4 +1,4 @@
--- The search finds the page or none; a page that is found is stale, and goes by rule 8, or it is touched.
+-- The search finds the page or none; a page that is found is stale, and goes by rule 8, or it is hit.
 use mathlib.Core.Path.{refl, sym, _∙_}
 use Prim.Native.Nat.{_≤_}
 use lib.ListN.{length}
@@ -12,7 +12,7 @@ use Rattle.answer.proofs.Steps.{comes-told}
 use Rattle.moves.specs.Moves.{KeyAt}
 use Rattle.moves.proofs.Removal.{slot-inside}
 use Rattle.deletion.proofs.Deleting.{can-delete}
-use Rattle.lookups.proofs.Calls.{lookup-short, lookup-absent, lookup-stale, lookup-hit}
+use Rattle.lookups.proofs.Calls.{can-hit, lookup-short, lookup-absent, lookup-stale, lookup-hit}
 use Rattle.lookups.proofs.lookup.get.Statement.{statement}
 use Rattle.lookups.proofs.lookup.get.Tie as tie
 
@@ -37,7 +37,7 @@ seat-of-requires c κs = holds-by-key (c .before .before .before .before .before
 returns-2 : tie.Need-returns-2
 returns-2 c = λ w H.
     comes-told (c .plain2 .ensures)
-    (lookup-absent H _ (c .before .before .before .before .before .before .if1 .left) (rw (c .before .enum-told .given .1) at (c .before .before .before .seat-of .ensures .seat _ _ _ w H refl)))
+    (lookup-absent H _ (rw (c .before .enum-told .given .1) at (c .before .before .before .seat-of .ensures .seat _ _ _ w H refl)) (c .before .before .before .before .before .before .if1 .left))
 
 load-requires : tie.Need-load-requires
 load-requires c κs =
@@ -57,22 +57,22 @@ returns-3 c = λ w H.
     let test = deleted .before .before .before .before .before .before in
     let seat = test .before .before .before .before .before in
     let at = found seat w H .stands in
-    lookup-stale H _ (long seat) at (test .before .before .load .ensures) (sym (test .before .is-stale .ensures) ∙ test .if2 .taken) (deleted .delete-at .ensures w _ _ H at)
+    lookup-stale H at (test .before .before .load .ensures) (long seat) (sym (test .before .is-stale .ensures) ∙ test .if2 .taken) (deleted .delete-at .ensures w _ _ H at)
 
-touch-at-requires : tie.Need-touch-at-requires
-touch-at-requires c κs =
-    let seat = c .before .before .before .before .before .before in
+hit-requires : tie.Need-hit-requires
+hit-requires c κs =
+    let loaded = c .before .before .before in
+    let seat = loaded .before .before .before in
     let H = start seat .pre .holds in
-    slot-inside H (found seat _ H .stands)
+    can-hit H (found seat _ H .stands) (loaded .load .ensures)
 
 returns-4 : tie.Need-returns-4
 returns-4 c = λ w H.
-    let touched = c .before .before .before in
-    let test = touched .before .before in
+    let called = c .before .before in
+    let test = called .before .before in
     let seat = test .before .before .before .before .before in
     let at = found seat w H .stands in
-    comes-told (c .plain3 .ensures)
-    (lookup-hit H _ (long seat) at (test .before .before .load .ensures) (sym (test .before .is-stale .ensures) ∙ test .if2 .left) (touched .touch-at .ensures _ _ _ _ w _ _ H at))
+    lookup-hit H at (test .before .before .load .ensures) (long seat) (sym (test .before .is-stale .ensures) ∙ test .if2 .left) (called .hit .ensures _ _ _ w _ _ H at)
 
 pub get-spec : {M : Type 1} → statement M
 get-spec =
@@ -88,6 +88,6 @@ get-spec =
     delete-at-requires
     (λ c. search needs) (λ c. search needs) (λ c. search needs) (λ c. search needs) (λ c. search needs)
     returns-3
-    touch-at-requires
-    (λ c κs. search needs) (λ c. search needs) (λ c. search needs)
+    hit-requires
+    (λ c. search needs) (λ c. search needs)
     returns-4)

@@ -1,20 +1,19 @@
--- The search finds the page or none; the page is touched if asked.
+-- The search finds the page or none; a page that is found is hit.
 use mathlib.Core.Path.{refl}
 use mathlib.Core.List.{List}
 use Prim.Native.Nat.{ℕ, _<_}
 use lib.ListN.{length}
 use denote.Ref.{now}
-use borrow.Author.Tests.{not-true, not-false}
 use borrow.Author.Needs.{needs}
 use Rattle.pool.specs.Slots.{entries}
 use Rattle.model.specs.Cache.{Cache}
 use Rattle.memory.specs.Memory.{memoryOf}
 use Rattle.memory.specs.Holds.{Holds}
 use Rattle.memory.proofs.Standing.{holds-by-key}
-use Rattle.answer.proofs.Steps.{follows-told}
+use Rattle.answer.proofs.Steps.{follows-told, follows-as}
 use Rattle.moves.specs.Moves.{KeyAt}
 use Rattle.moves.proofs.Removal.{slot-inside}
-use Rattle.lookups.proofs.Calls.{peek-absent, peek-seen, peek-touched}
+use Rattle.lookups.proofs.Calls.{can-hit, peek-found, peek-absent}
 use Rattle.lookups.proofs.lookup.peek.Statement.{statement}
 use Rattle.lookups.proofs.lookup.peek.Tie as tie
 
@@ -37,26 +36,23 @@ seat-of-requires c κs = holds-by-key (c .before .before .before .pre .sound .ho
 
 returns : tie.Need-returns
 returns c = λ by-handle marks w H.
-    follows-told (c .plain .ensures) (peek-absent H _ _ (rw (c .before .enum-told .given .1) at (c .before .before .before .seat-of .ensures .seat _ _ _ w H refl)))
+    follows-told (c .plain .ensures) (peek-absent H _ (rw (c .before .enum-told .given .1) at (c .before .before .before .seat-of .ensures .seat _ _ _ w H refl)) _)
 
 load-requires : tie.Need-load-requires
 load-requires c κs = inside (c .before .before)
 
+hit-requires : tie.Need-hit-requires
+hit-requires c κs =
+    let loaded = c .before in
+    let seat = loaded .before .before .before in
+    let H = start seat .pre .sound .holds in
+    can-hit H (found seat _ _ _ H .stands) (loaded .load .ensures)
+
 returns-2 : tie.Need-returns-2
 returns-2 c = λ by-handle marks w H.
-    let loaded = c .before .before in
-    follows-told (c .before .plain2 .ensures)
-    (peek-seen H _ (found (loaded .before .before .before) by-handle marks w H .stands) (loaded .load .ensures) _ (not-true _ (c .if1 .taken)))
-
-touch-at-requires : tie.Need-touch-at-requires
-touch-at-requires c κs = inside (c .before .before .before .before .before .before)
-
-returns-3 : tie.Need-returns-3
-returns-3 c = λ by-handle marks w H.
-    let loaded = c .before .before .before .before .before .before in
-    let at = found (loaded .before .before .before) by-handle marks w H .stands in
-    follows-told (c .before .before .before .before .before .plain2 .ensures)
-    (peek-touched H _ at (loaded .load .ensures) _ (not-false _ (c .before .before .before .before .if1 .left)) (c .before .before .touch-at .ensures _ _ _ _ w _ _ H at))
+    let called = c .before .before in
+    let at = found (called .before .before .before .before .before) by-handle marks w H .stands in
+    follows-as (peek-found _ w (at .found) _) (called .hit .ensures _ by-handle marks w _ _ H at)
 
 pub peek-spec : {M : Type 1} → statement M
 peek-spec =
@@ -66,8 +62,6 @@ peek-spec =
     (λ c. search needs) (λ c. search needs) (λ c κs. search needs) (λ c. search needs)
     returns
     load-requires
-    (λ c κs. search needs) (λ c. search needs)
-    returns-2
-    touch-at-requires
+    hit-requires
     (λ c. search needs)
-    returns-3)
+    returns-2)
