@@ -2,7 +2,7 @@
 -- test's code with nothing changed. A rule is put together from blocks, and each block only adds to what was answered and
 -- listed: so a call that came to the rest of a rule came to the whole.
 use mathlib.Core.Path.{_≡_, refl, sym, ap, _∙_, subst}
-use mathlib.Core.Bool.{true, false}
+use mathlib.Core.Bool.{Bool, true, false}
 use mathlib.Core.List.{List, [], _∷_, _++_, append-assoc}
 use mathlib.Core.Logic.{_≢_}
 use mathlib.Core.Option.{some}
@@ -11,17 +11,20 @@ use native.Mathlib.Omega.{arith}
 use lib.ListN.{length, take, drop, set, length-append}
 use lib.Seq.{drop-cons, drop-drop, take-append-seam, drop-append-add, set-append-seam}
 use borrow.Author.Tests.{lt-ltb, le-ltb}
-use Rattle.page.specs.Record.{deletable}
+use Rattle.page.specs.Record.{deletable, oneHolderMore}
 use Rattle.page.specs.declared.cache.PageCache.{PageCache}
 use Rattle.page.specs.declared.record.Deletable.{Deletable}
 use Rattle.page.specs.declared.record.Deletable.the-variants.{Yes, Locked, Dirty, Pinned}
-use Rattle.model.specs.Cache.{Cache, heldIn, leave}
+use Rattle.page.specs.declared.record.Recount.{Recount}
+use Rattle.page.specs.declared.record.Recount.the-variants.{Now, AtLimit}
+use Rattle.model.specs.Cache.{Cache, heldIn, leave, touch, rewrite}
 use Rattle.model.specs.Call.{Call, Outcome, answer, listing, touching}
 use Rattle.model.specs.Rooms.{Room, following}
 use Rattle.model.specs.Row.{Page}
-use Rattle.model.specs.Rules.{deleting}
+use Rattle.model.specs.Rules.{deleting, hit}
 use Rattle.model.specs.Step.{act, step}
 use Rattle.model.specs.Tests.{asks, tooLarge, badRecord, shortList, handleElsewhere, refusal}
+use Rattle.model.proofs.KeptCases.{either}
 use Rattle.model.proofs.KeptTests.{Passes}
 use Rattle.memory.specs.Memory.{Memory}
 use Rattle.memory.specs.Holds.{Holds}
@@ -171,3 +174,21 @@ module _ (p : Page) (follow : Cache → Outcome) (c : Cache) where
   deleting-refused Locked because may-not = ap decided because
   deleting-refused Dirty because may-not = ap decided because
   deleting-refused Pinned because may-not = ap decided because
+
+-- ── rule 9 ───────────────────────────────────────────────────────────────────
+abbrev Unlisted : Outcome → Type 0
+Unlisted o = o .listed ≡ []
+
+-- a hit lists nothing
+pub hit-unlisted : (key : ℕ) (asked : Bool) (p : Page) (c : Cache) → hit key asked p c .listed ≡ []
+hit-unlisted key asked p c = go (oneHolderMore (p .state))
+  where
+    go : (r : Recount) → Unlisted (elim r [
+      | Now state ↦ elim asked [
+        | true ↦ touching (answer 0 (p .handle) (touch key (rewrite key state c)))
+        | false ↦ answer 0 (p .handle) (rewrite key state c)
+      ]
+      | AtLimit ↦ answer 20 0 c
+    ])
+    go (Now state) = either Unlisted asked (λ _. refl) (λ _. refl)
+    go AtLimit = refl

@@ -19,7 +19,7 @@ use Rattle.answer.specs.declared.answer.Answer.the-variants.{NotSound, BadRepla
 use Rattle.answer.specs.declared.answered.Answered.{Answered}
 use Rattle.contract.specs.Called.{State, refuses, acts, Typed}
 use Rattle.replay_record.specs.Fields.{decoded}
-use Rattle.replay_record.specs.Request.{Request, none, creation, call, operations, requestOf, requestIn}
+use Rattle.replay_record.specs.Request.{Request, none, creation, call, operations, lastOperation, requestOf, requestIn}
 use Rattle.replay_record.specs.declared.record.Record.{Record}
 use Rattle.replay_record.specs.declared.record.Decoded.{Decoded}
 use Rattle.replay_record.specs.declared.record.Decoded.the-variants.{Bad, Good}
@@ -47,15 +47,15 @@ in-table (x ∷ l) zero is = omega arith
 in-table (x ∷ l) (suc n) is = omega (arith, in-table l n is)
 
 module _ (asked : Record) (places : ℕ) where
-  -- 1 to 16
-  is-call : 1 ≤ asked .operation → asked .operation ≤ 16 → IsCall (requestOf asked places)
+  -- from 1 to the last
+  is-call : 1 ≤ asked .operation → asked .operation ≤ lastOperation → IsCall (requestOf asked places)
   is-call = go (asked .operation)
     where
-      go : (n : ℕ) → 1 ≤ n → n ≤ 16 → IsCall (getD (operations asked places) n none)
+      go : (n : ℕ) → 1 ≤ n → n ≤ lastOperation → IsCall (getD (operations asked places) n none)
       go zero least most = absurd (omega arith)
       go (suc n) least most =
           let all : AllCalls (drop {A = Request} 1 (operations asked places)) =
-          (tt, (tt, (tt, (tt, (tt, (tt, (tt, (tt, (tt, (tt, (tt, (tt, (tt, (tt, (tt, (tt, tt)))))))))))))))) in
+          (tt, (tt, (tt, (tt, (tt, (tt, (tt, (tt, (tt, (tt, (tt, (tt, (tt, (tt, (tt, (tt, (tt, tt))))))))))))))))) in
           call-in (drop {A = Request} 1 (operations asked places)) all n (omega arith)
 
   -- and no others
@@ -66,30 +66,30 @@ module _ (asked : Record) (places : ℕ) where
       go zero is = absurd is
       go (suc n) is = omega arith
 
-  call-most : IsCall (requestOf asked places) → asked .operation ≤ 16
+  call-most : IsCall (requestOf asked places) → asked .operation ≤ lastOperation
   call-most is = omega (arith, in-table (operations asked places) (asked .operation) is)
 
 -- ── the soundness test ───────────────────────────────────────────────────────
 -- the operation as the code tests it
-pub outside : (n : ℕ) → (ltb n 1 || ltb 16 n) ≡ true → 1 ≤ n → n ≤ 16 → ⊥
+pub outside : (n : ℕ) → (ltb n 1 || ltb lastOperation n) ≡ true → 1 ≤ n → n ≤ lastOperation → ⊥
 outside n told least most =
-    let neither : (ltb n 1 || ltb 16 n) ≡ false = rw (le-ltb n 1 least, le-ltb 16 n most) in
+    let neither : (ltb n 1 || ltb lastOperation n) ≡ false = rw (le-ltb n 1 least, le-ltb lastOperation n most) in
     true≢false (sym told ∙ neither)
 
 neither-of : (a b : Bool) → (a || b) ≡ false → (a ≡ false) × (b ≡ false)
 neither-of true b told = absurd (true≢false told)
 neither-of false b told = (refl, told)
 
-pub inside : (n : ℕ) → (ltb n 1 || ltb 16 n) ≡ false → (1 ≤ n) × (n ≤ 16)
+pub inside : (n : ℕ) → (ltb n 1 || ltb lastOperation n) ≡ false → (1 ≤ n) × (n ≤ lastOperation)
 inside n told =
-    let each : (ltb n 1 ≡ false) × (ltb 16 n ≡ false) = neither-of (ltb n 1) (ltb 16 n) told in
-    (ltb-false n 1 (each .0), ltb-false 16 n (each .1))
+    let each : (ltb n 1 ≡ false) × (ltb lastOperation n ≡ false) = neither-of (ltb n 1) (ltb lastOperation n) told in
+    (ltb-false n 1 (each .0), ltb-false lastOperation n (each .1))
 
 module _ {operation : ℕ} {m : Memory} {head : PageCache} where
-  pub ready-else : (1 ≤ operation → operation ≤ 16 → ⊥) → Decides true (Runnable operation m head)
+  pub ready-else : (1 ≤ operation → operation ≤ lastOperation → ⊥) → Decides true (Runnable operation m head)
   ready-else other = decides-yes (record { sound = λ least most. absurd (other least most) })
 
-  pub ready-call : (1 ≤ operation) × (operation ≤ 16) → {sound : Bool} → Decides sound (Sound m head) → Decides sound (Runnable operation m head)
+  pub ready-call : (1 ≤ operation) × (operation ≤ lastOperation) → {sound : Bool} → Decides sound (Sound m head) → Decides sound (Runnable operation m head)
   ready-call within told = decides-as told (λ s. record { sound = λ _ _. s }) (λ w. w .sound (within .0) (within .1))
 
 -- ── the contract ─────────────────────────────────────────────────────────────

@@ -51,7 +51,7 @@ fn is_ready(
 ) -> bool
     ensures { λ r. let m = memories slots «by_key» «by_handle» marks in ⌜ Decides r (Runnable operation (m .entry) head) ⌝ }
 {
-    if (operation < 1) | (operation > 16) {
+    if (operation < 1) | (operation > 17) {
         return true;
     }
     is_sound(slots, by_key, by_handle, marks, head)

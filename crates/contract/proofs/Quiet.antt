@@ -5,18 +5,24 @@ use mathlib.Core.Option.{Option, none, some}
 use mathlib.Core.Path.{_≡_, refl}
 use Prim.Native.Nat.{ℕ, zero, suc}
 use Rattle.page.specs.Cache.{pageOne}
+use Rattle.page.specs.Record.{oneHolderLess}
 use Rattle.page.specs.declared.record.PageRecord.{PageRecord}
+use Rattle.page.specs.declared.record.Recount.{Recount}
+use Rattle.page.specs.declared.record.Recount.the-variants.{Now, AtLimit}
 use Rattle.model.specs.Row.{Entry, find}
-use Rattle.model.specs.Cache.{Cache, up, down}
-use Rattle.model.specs.Call.{Call, Outcome, peek, notify-dirty, notify-spilled, write, switch}
-use Rattle.model.specs.Rules.{peekFound, notified, writeFound}
+use Rattle.model.specs.Cache.{Cache, up, down, rewrite}
+use Rattle.model.specs.Call.{Call, Outcome, answer, peek, release, notify-dirty, notify-spilled, write, switch}
+use Rattle.model.specs.Rules.{peekFound, releaseFound, notified, writeFound}
 use Rattle.model.specs.Step.{act, tested, step}
 use Rattle.model.specs.Tests.{refusal}
 use Rattle.model.proofs.KeptCases.{either}
 use Rattle.memory.specs.Memory.{Memory}
 use Rattle.answer.specs.Answer.{Follows, MatchesOutcome}
 use Rattle.answer.specs.declared.answered.Answered.{Answered}
-use Rattle.answer.proofs.Steps.{unlisted-comes}
+use Rattle.answer.proofs.Steps.{unlisted-comes, hit-unlisted}
+
+abbrev Unlisted : Outcome → Type 0
+Unlisted o = o .listed ≡ []
 
 -- calls that list nothing by their rules
 pub record Quiet (call : Call) : Type 0 where
@@ -37,12 +43,23 @@ quiet-comes q c f = unlisted-comes f (quiet-step q c)
 
 pub quiet-peek : (key : ℕ) (asked : Bool) → Quiet (peek key asked)
 unfolding act
-quiet-peek key asked = record { silent = λ c. go (find key (c .row)) asked c }
+quiet-peek key asked = record { silent = λ c. go (find key (c .row)) c }
   where
-    go : (found : Option Entry) (asked : Bool) (c : Cache) → peekFound key asked found c .listed ≡ []
-    go none asked c = refl
-    go (some e) true c = refl
-    go (some e) false c = refl
+    go : (found : Option Entry) (c : Cache) → peekFound key asked found c .listed ≡ []
+    go none c = refl
+    go (some e) c = hit-unlisted key asked (e .page) c
+
+pub quiet-release : (key : ℕ) → Quiet (release key)
+unfolding act
+quiet-release key = record { silent = λ c. go (find key (c .row)) c }
+  where
+    less : (r : Recount) (c : Cache) → Unlisted (elim r [ Now state ↦ answer 0 0 (rewrite key state c) | AtLimit ↦ answer 20 0 c ])
+    less (Now state) c = refl
+    less AtLimit c = refl
+
+    go : (found : Option Entry) (c : Cache) → releaseFound key found c .listed ≡ []
+    go none c = refl
+    go (some e) c = less (oneHolderLess (e .page .state)) c
 
 pub quiet-write : (key : ℕ) (state : PageRecord) → Quiet (write key state)
 unfolding act
@@ -54,7 +71,7 @@ quiet-write key state = record { silent = λ c. go (find key (c .row)) c }
 
 quiet-notice : (by : ℕ → ℕ) (found : Option Entry) (c : Cache) → notified by found c .listed ≡ []
 quiet-notice by none c = refl
-quiet-notice by (some e) c = either (λ (o : Outcome). o .listed ≡ []) (pageOne (e .page .key)) (λ _. refl) (λ _. refl)
+quiet-notice by (some e) c = either Unlisted (pageOne (e .page .key)) (λ _. refl) (λ _. refl)
 
 pub quiet-dirty : (key : ℕ) → Quiet (notify-dirty key)
 unfolding act

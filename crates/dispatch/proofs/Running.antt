@@ -2,7 +2,7 @@
 -- of the table.
 use mathlib.Core.Path.{_≡_, refl, sym, ap, subst, _∙_}
 use mathlib.Core.List.{List, [], _∷_}
-use Prim.Native.Nat.{ℕ, zero, suc, _+_, _≤_}
+use Prim.Native.Nat.{ℕ, zero, suc, _+_, _≤_, _<_}
 use native.Mathlib.Omega.{arith}
 use lib.ListN.{length, getD}
 use Rattle.page.specs.declared.cache.PageCache.{PageCache}
@@ -15,12 +15,12 @@ use Rattle.answer.specs.Answer.{MatchesOutcome, plainly}
 use Rattle.answer.specs.declared.answer.Answer.the-variants.{BadReplay}
 use Rattle.answer.specs.declared.answered.Answered.{Answered}
 use Rattle.contract.specs.Called.{State}
-use Rattle.replay_record.specs.Request.{Request, none, creation, call, operations, requestOf}
+use Rattle.replay_record.specs.Request.{Request, none, creation, call, operations, lastOperation, requestOf}
 use Rattle.replay_record.specs.declared.record.Record.{Record}
 use Rattle.dispatch.specs.Runs.{Runnable, Makes, Runs, Ran}
 
 -- ── before a call ────────────────────────────────────────────────────────────
-pub sound-at : {operation k : ℕ} {m : Memory} {head : PageCache} → Runnable operation m head → operation ≡ k → 1 ≤ k → k ≤ 16 → Sound m head
+pub sound-at : {operation k : ℕ} {m : Memory} {head : PageCache} → Runnable operation m head → operation ≡ k → 1 ≤ k → k ≤ lastOperation → Sound m head
 sound-at w is least most = w .sound (omega (arith, is, least)) (omega (arith, is, most))
 
 -- ── after it ─────────────────────────────────────────────────────────────────
@@ -46,10 +46,10 @@ module _ {asked : Record} {before : State} {head : PageCache} {after : State} {r
       → Ran asked before head after r
   ran-creation is makes same = ran-as (creation (asked .number)) (at-place asked (length (before .list)) 0 is) (record { makes = makes; list = same })
 
-  pub ran-none : 17 ≤ asked .operation → after ≡ before → r ≡ plainly BadReplay head → Ran asked before head after r
+  pub ran-none : lastOperation < asked .operation → after ≡ before → r ≡ plainly BadReplay head → Ran asked before head after r
   ran-none above same told =
       ran-as none (beyond (operations asked (length (before .list))) (asked .operation) above) (record { state = same; answer = told })
 
--- ── what is left after seventeen arms ────────────────────────────────────────
+-- ── what is left after eighteen arms ────────────────────────────────────────
 pub past : (n k : ℕ) → n ≤ k → (k ≡ n → ⊥) → n + 1 ≤ k
 past n k least other = omega arith

@@ -14,12 +14,12 @@ use Rattle.answer.specs.Answer.{MatchesOutcome, plainly}
 use Rattle.answer.specs.declared.answer.Answer.the-variants.{Done, BadLengths, TooLarge, BadReplay}
 use Rattle.answer.specs.declared.answered.Answered.{Answered}
 use Rattle.contract.specs.Called.{State}
-use Rattle.replay_record.specs.Request.{Request, none, creation, call, requestOf}
+use Rattle.replay_record.specs.Request.{Request, none, creation, call, lastOperation, requestOf}
 use Rattle.replay_record.specs.declared.record.Record.{Record}
 
--- operations 1 to 16 are calls, and those ask for sound memory
+-- the operations from 1 on are calls, and those ask for sound memory
 pub record Runnable (operation : ℕ) (m : Memory) (head : PageCache) : Type 0 where
-  pub sound : 1 ≤ operation → operation ≤ 16 → Sound m head
+  pub sound : 1 ≤ operation → operation ≤ lastOperation → Sound m head
 
 -- ── a creation ───────────────────────────────────────────────────────────────
 -- 01's answer: done, with the new cache's head; or refused, and the head stays

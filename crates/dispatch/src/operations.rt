@@ -13,6 +13,7 @@ use insertion::force_upsert_page;
 use insertion::insert;
 use lookups::get;
 use lookups::peek;
+use lookups::release_page;
 use page::PageCache;
 use replay_record::Record;
 use resizing::evict;
@@ -24,7 +25,7 @@ ghost use Rattle.memory.specs.Memory.{memory, memories};
 ghost use Rattle.contract.specs.Called.{lent};
 ghost use Rattle.dispatch.specs.Runs.{Runnable, Ran};
 
-// Carries out what a record asks for. An operation above 16 is answered with 17.
+// Carries out what a record asks for. An operation above 17 is answered with 17.
 pub fn dispatch(
     slots: &mut [u64],
     by_key: &mut [u32],
@@ -99,6 +100,7 @@ pub fn dispatch(
         14 => check_spill(slots, by_key, list, head, number),
         15 => evict(slots, by_key, by_handle, marks, list, head),
         16 => set_spill_enabled(head, option),
-        17..=255 => Answered::plain(Answer::BadReplay, head),
+        17 => release_page(slots, by_key, head, key),
+        18..=255 => Answered::plain(Answer::BadReplay, head),
     }
 }

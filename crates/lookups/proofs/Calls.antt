@@ -1,7 +1,7 @@
 -- Rule 9: a call that passes its tests does what the rule says of the entry that the search found, or of none.
 use mathlib.Core.Path.{_≡_, refl, sym, ap, _∙_, subst}
 use mathlib.Core.Bool.{Bool, true, false, cond}
-use mathlib.Core.List.{List, []}
+use mathlib.Core.List.{List}
 use mathlib.Core.Option.{Option, none, some}
 use Prim.Native.Nat.{ℕ, _+_, _-_, _≤_, _<_}
 use native.Mathlib.Omega.{arith}
@@ -25,7 +25,7 @@ use Rattle.memory.proofs.Standing.{found-good}
 use Rattle.answer.specs.Answer.{plainly, Follows, MatchesOutcome}
 use Rattle.answer.specs.declared.answer.Answer.the-variants.{Done, ShortList, Absent, HolderLimit}
 use Rattle.answer.specs.declared.answered.Answered.{Answered}
-use Rattle.answer.proofs.Steps.{step-acts, step-short-list, list-short, list-long, follows-as, comes-as, plain-follows, plain-comes, unlisted-comes, touching-follows}
+use Rattle.answer.proofs.Steps.{step-acts, step-short-list, list-short, list-long, follows-as, comes-as, plain-follows, plain-comes, unlisted-comes, touching-follows, hit-unlisted}
 use Rattle.moves.specs.Moves.{StandsAt}
 use Rattle.deletion.proofs.Deleting.{stored-is}
 use Rattle.lookups.specs.Hit.{CanHit}
@@ -59,18 +59,6 @@ module _ (key : ℕ) (asked : Bool) (p : Page) (c : Cache) where
 
   hit-is : {r : Recount} → oneHolderMore (p .state) ≡ r → hit key asked p c ≡ hitWith r
   hit-is is = ap hitWith is
-
--- it lists nothing
-abbrev Unlisted : Outcome → Type 0
-Unlisted o = o .listed ≡ []
-
-hit-unlisted : (key : ℕ) (asked : Bool) (p : Page) (c : Cache) → Unlisted (hit key asked p c)
-hit-unlisted key asked p c = go (oneHolderMore (p .state)) asked
-  where
-    go : (r : Recount) (b : Bool) → Unlisted (hitWith key b p c r)
-    go (Now state) true = refl
-    go (Now state) false = refl
-    go AtLimit b = refl
 
 -- ── by what was found ────────────────────────────────────────────────────────
 module _ (key : ℕ) (c : Cache) {found : Option Entry} (is : find key (c .row) ≡ found) where

@@ -8,7 +8,8 @@ ghost use Rattle.model.specs.Call as call;
 ghost use Rattle.memory.specs.Memory.{memories};
 ghost use Rattle.contract.specs.Called.{lent, Called};
 
-// The handle of the page under a key, which is touched. A page neither loaded nor locked is deleted instead.
+// The handle of the page under a key, which is touched and has one holder more, until it is released. A page neither loaded nor locked is
+// deleted instead.
 pub fn get(
     slots: &mut [u64],
     by_key: &mut [u32],

@@ -1,9 +1,10 @@
-// The public calls of the cache, under the Rust's names. They ask nothing of what they are lent: any memory of any lengths,
+// The public calls of the cache, under the Rust's names; but the Rust has no `release_page`, since there a clone is dropped. They ask nothing of what they are lent: any memory of any lengths,
 // any head and any list get a defined answer.
 //
 //     plain.rt, forced.rt, upserting.rt   insert, force_insert_page, force_upsert_page
 //     getting.rt, deleting.rt             get, delete
-//     peeking.rt, writing.rt              peek, write_record
+//     peeking.rt, releasing.rt            peek, release_page
+//     writing.rt                          write_record
 //     dirty.rt, spilled.rt, switch.rt     notify_page_dirty, notify_page_spilled, set_spill_enabled
 //     capacity.rt, evicting.rt            resize, evict_one
 //     selecting.rt                        check_spill
@@ -25,6 +26,7 @@ mod frames;
 mod getting;
 mod peeking;
 mod plain;
+mod releasing;
 mod selecting;
 mod spilled;
 mod switch;
@@ -45,6 +47,7 @@ pub use listing::list_numbers;
 pub use listing::list_pages;
 pub use peeking::peek;
 pub use plain::insert;
+pub use releasing::release_page;
 pub use selecting::check_spill;
 pub use soundness::is_sound;
 pub use spilled::notify_page_spilled;

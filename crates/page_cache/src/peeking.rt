@@ -8,7 +8,7 @@ ghost use Rattle.model.specs.Call as call;
 ghost use Rattle.memory.specs.Memory.{memories};
 ghost use Rattle.contract.specs.Called.{lent, Called};
 
-// The handle of the page under a key, whatever its record. It is touched if asked.
+// The handle of the page under a key, whatever its flags. It has one holder more, until it is released, and is touched if asked.
 pub fn peek(
     slots: &mut [u64],
     by_key: &[u32],

@@ -9,7 +9,7 @@ ghost use Rattle.model.specs.Call as call;
 ghost use Rattle.memory.specs.Memory.{memories};
 ghost use Rattle.contract.specs.Called.{lent, Called};
 
-// Another record for the page under a key. Its handle, its use count and the estimate stay.
+// Another record for the page under a key, its holders included. Its handle, its use count and the estimate stay.
 pub fn write_record(
     slots: &mut [u64],
     by_key: &[u32],

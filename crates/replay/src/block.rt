@@ -141,8 +141,8 @@ fn put_lines(
     answered: Answered,
     states: bool,
 ) -> usize
-    requires { ⌜ at + 23000 ≤ 131072 ⌝ }
-    ensures { λ r. ⌜ r ≤ at + 23000 ⌝ }
+    requires { ⌜ at + 28000 ≤ 131072 ⌝ }
+    ensures { λ r. ⌜ r ≤ at + 28000 ⌝ }
 {
     let head = answered.head;
     let end = put_answer(out, at, slots, list, answered);

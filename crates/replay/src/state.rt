@@ -1,4 +1,4 @@
-// The line of a pool: `-`, capacity, spill switch, estimate, held, then key, handle and use count of each page in sweep order.
+// The line of a pool: `-`, capacity, spill switch, estimate, held, then key, handle, use count and holders of each page in sweep order.
 use crate::sizes;
 use listing::Listing;
 use page::PageCache;
@@ -20,8 +20,8 @@ pub fn put_state(
     marks: &[u64; sizes::MARKS],
     head: PageCache,
 ) -> usize
-    requires { ⌜ at + 17000 ≤ 131072 ⌝ }
-    ensures { λ r. ⌜ r ≤ at + 17000 ⌝ }
+    requires { ⌜ at + 22000 ≤ 131072 ⌝ }
+    ensures { λ r. ⌜ r ≤ at + 22000 ⌝ }
 {
     let mut pages = [0u64; NUMBERS];
     let listed = listing::list_numbers(slots, by_key, by_handle, marks, head, &mut pages);
@@ -47,8 +47,8 @@ fn put_head(out: &mut [u8; ROOM], at: usize, head: PageCache) -> usize
 }
 
 fn put_pages(out: &mut [u8; ROOM], at: usize, pages: &[u64; NUMBERS], count: u32) -> usize
-    requires { ⌜ at + 16128 ≤ 131072 ⌝ }
-    ensures { λ r. ⌜ r ≤ at + 16128 ⌝ }
+    requires { ⌜ at + 21504 ≤ 131072 ⌝ }
+    ensures { λ r. ⌜ r ≤ at + 21504 ⌝ }
 {
     let mut next = at;
     let mut i = 0;
@@ -56,17 +56,32 @@ fn put_pages(out: &mut [u8; ROOM], at: usize, pages: &[u64; NUMBERS], count: u32
         if i >= count as usize {
             return next;
         }
-        next = put_page(out, next, pages[8 * i], pages[8 * i + 1], pages[8 * i + 7]);
+        next = put_page(
+            out,
+            next,
+            pages[8 * i],
+            pages[8 * i + 1],
+            pages[8 * i + 7],
+            pages[8 * i + 4],
+        );
         i += 1;
     }
     next
 }
 
-fn put_page(out: &mut [u8; ROOM], at: usize, key: u64, handle: u64, uses: u64) -> usize
-    requires { ⌜ at + 63 ≤ 131072 ⌝ }
-    ensures { λ r. ⌜ r ≤ at + 63 ⌝ }
+fn put_page(
+    out: &mut [u8; ROOM],
+    at: usize,
+    key: u64,
+    handle: u64,
+    uses: u64,
+    holders: u64,
+) -> usize
+    requires { ⌜ at + 84 ≤ 131072 ⌝ }
+    ensures { λ r. ⌜ r ≤ at + 84 ⌝ }
 {
     let after_key = put_next(out, at, b' ', key);
     let after_handle = put_next(out, after_key, b':', handle);
-    put_next(out, after_handle, b':', uses)
+    let after_uses = put_next(out, after_handle, b':', uses);
+    put_next(out, after_uses, b':', holders)
 }

@@ -2,7 +2,7 @@
 use mathlib.Core.List.{List, [], _∷_}
 use Prim.Native.Nat.{ℕ}
 use lib.ListN.{getD}
-use Rattle.model.specs.Call.{Call, plain, forced, upsert, insert, lookup, peek, delete, resize, truncate, remove-frames, clear, notify-dirty, notify-spilled, write, spill, evict-one, switch}
+use Rattle.model.specs.Call.{Call, plain, forced, upsert, insert, lookup, peek, release, delete, resize, truncate, remove-frames, clear, notify-dirty, notify-spilled, write, spill, evict-one, switch}
 use Rattle.replay_record.specs.declared.record.Record.{Record}
 use Rattle.replay_record.specs.declared.record.Decoded.{Decoded}
 use Rattle.replay_record.specs.declared.record.Decoded.the-variants.{Bad, Good}
@@ -13,7 +13,7 @@ pub data Request : Type 0 where
   creation : (capacity : ℕ) → Request
   call : Call → Request
 
--- the operations, from 0 to 16, of a record that comes with a list of `places` places
+-- the operations, from 0 on, of a record that comes with a list of `places` places
 abbrev pub operations : Record → (places : ℕ) → List Request
 operations r places =
     creation (r .number)
@@ -33,9 +33,13 @@ operations r places =
     ∷ call (spill (r .number) places)
     ∷ call (evict-one places)
     ∷ call (switch (r .option))
+    ∷ call (release (r .key .0))
     ∷ []
 
--- an operation above 16 is answered with 17
+-- the number of the last one: an operation above it is answered with 17
+abbrev pub lastOperation : ℕ
+lastOperation = 17
+
 abbrev pub requestOf : Record → (places : ℕ) → Request
 requestOf r places = getD (operations r places) (r .operation) none
 

@@ -8,7 +8,7 @@ ghost use lib.ListN.{length};
 ghost use Rattle.replay_record.specs.Fields.{bad, fields, decoded};
 
 pub struct Record {
-    // Which call it is: 0 create to 16 spill switch. No call has a number above 16.
+    // Which call it is: 0 create to 17 release. No call has a number above 17.
     pub operation: u8,
     // Touch (peek), dirty too (clear), on (spill switch).
     pub option: bool,

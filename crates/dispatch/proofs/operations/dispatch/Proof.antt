@@ -1,10 +1,10 @@
--- Each arm's call comes to what the table of operations has at its number; what no arm takes is above 16.
+-- Each arm's call comes to what the table of operations has at its number; what no arm takes is above 17.
 use mathlib.Core.Path.{refl}
 use Prim.Native.Nat.{_≤_, zero-le}
 use native.Mathlib.Omega.{arith}
 use borrow.Author.Needs.{needs}
 use Rattle.spilling.proofs.Parts.{sound-readable}
-use Rattle.contract.proofs.Quiet.{quiet-comes, quiet-peek, quiet-dirty, quiet-spilled, quiet-write, quiet-switch}
+use Rattle.contract.proofs.Quiet.{quiet-comes, quiet-peek, quiet-dirty, quiet-spilled, quiet-write, quiet-switch, quiet-release}
 use Rattle.dispatch.proofs.Running.{sound-at, ran-call, ran-creation, ran-none, past}
 use Rattle.dispatch.proofs.operations.dispatch.Statement.{statement}
 use Rattle.dispatch.proofs.operations.dispatch.Tie as tie
@@ -93,6 +93,11 @@ evict-requires c κs =
 
 set-spill-enabled-requires : tie.Need-set-spill-enabled-requires
 set-spill-enabled-requires c κs = search needs
+
+release-page-requires : tie.Need-release-page-requires
+release-page-requires c κs =
+    let arm = c .before .before in
+    record { by-handle = _; marks = _; sound = sound-at (start-of (arm .before) .pre) (arm .match .keys18) (omega arith) (omega arith) }
 
 plain-requires : tie.Need-plain-requires
 plain-requires c κs = search needs
@@ -371,12 +376,23 @@ returns-16 c =
 returns-17 : tie.Need-returns-17
 returns-17 c = ran-call 16 _ refl (c .before .match .keys17) (λ d h. quiet-comes (quiet-switch _) d (c .set-spill-enabled .ensures _ d h))
 
+same-length-66 : tie.Need-same-length-66
+same-length-66 c = search needs
+
+same-length-67 : tie.Need-same-length-67
+same-length-67 c = search needs
+
 returns-18 : tie.Need-returns-18
 returns-18 c =
+    let called = c .before .before in
+    ran-call 17 _ refl (called .before .before .before .match .keys18) (λ d h. quiet-comes (quiet-release _) d (called .release-page .ensures _ _ d h))
+
+returns-19 : tie.Need-returns-19
+returns-19 c =
     let start = start-of (c .before .before) in
     let rest = c .before .match .rest in
-    let above : 17 ≤ start .args .asked .operation =
-    past 16 _ (past 15 _ (past 14 _ (past 13 _ (past 12 _ (past 11 _ (past 10 _ (past 9 _ (past 8 _ (past 7 _ (past 6 _ (past 5 _ (past 4 _ (past 3 _ (past 2 _ (past 1 _ (past 0 _ zero-le (rest .0 .0 .0 .0 .0 .0 .0 .0 .0 .0 .0 .0 .0 .0 .0 .0 .1)) (rest .0 .0 .0 .0 .0 .0 .0 .0 .0 .0 .0 .0 .0 .0 .0 .1)) (rest .0 .0 .0 .0 .0 .0 .0 .0 .0 .0 .0 .0 .0 .0 .1)) (rest .0 .0 .0 .0 .0 .0 .0 .0 .0 .0 .0 .0 .0 .1)) (rest .0 .0 .0 .0 .0 .0 .0 .0 .0 .0 .0 .0 .1)) (rest .0 .0 .0 .0 .0 .0 .0 .0 .0 .0 .0 .1)) (rest .0 .0 .0 .0 .0 .0 .0 .0 .0 .0 .1)) (rest .0 .0 .0 .0 .0 .0 .0 .0 .0 .1)) (rest .0 .0 .0 .0 .0 .0 .0 .0 .1)) (rest .0 .0 .0 .0 .0 .0 .0 .1)) (rest .0 .0 .0 .0 .0 .0 .1)) (rest .0 .0 .0 .0 .0 .1)) (rest .0 .0 .0 .0 .1)) (rest .0 .0 .0 .1)) (rest .0 .0 .1)) (rest .0 .1)) (rest .1) in
+    let above : 18 ≤ start .args .asked .operation =
+    past 17 _ (past 16 _ (past 15 _ (past 14 _ (past 13 _ (past 12 _ (past 11 _ (past 10 _ (past 9 _ (past 8 _ (past 7 _ (past 6 _ (past 5 _ (past 4 _ (past 3 _ (past 2 _ (past 1 _ (past 0 _ zero-le (rest .0 .0 .0 .0 .0 .0 .0 .0 .0 .0 .0 .0 .0 .0 .0 .0 .0 .1)) (rest .0 .0 .0 .0 .0 .0 .0 .0 .0 .0 .0 .0 .0 .0 .0 .0 .1)) (rest .0 .0 .0 .0 .0 .0 .0 .0 .0 .0 .0 .0 .0 .0 .0 .1)) (rest .0 .0 .0 .0 .0 .0 .0 .0 .0 .0 .0 .0 .0 .0 .1)) (rest .0 .0 .0 .0 .0 .0 .0 .0 .0 .0 .0 .0 .0 .1)) (rest .0 .0 .0 .0 .0 .0 .0 .0 .0 .0 .0 .0 .1)) (rest .0 .0 .0 .0 .0 .0 .0 .0 .0 .0 .0 .1)) (rest .0 .0 .0 .0 .0 .0 .0 .0 .0 .0 .1)) (rest .0 .0 .0 .0 .0 .0 .0 .0 .0 .1)) (rest .0 .0 .0 .0 .0 .0 .0 .0 .1)) (rest .0 .0 .0 .0 .0 .0 .0 .1)) (rest .0 .0 .0 .0 .0 .0 .1)) (rest .0 .0 .0 .0 .0 .1)) (rest .0 .0 .0 .0 .1)) (rest .0 .0 .0 .1)) (rest .0 .0 .1)) (rest .0 .1)) (rest .1) in
     ran-none above refl (c .plain .ensures)
 
 pub dispatch-spec : {M : Type 1} → statement M
@@ -400,6 +416,7 @@ dispatch-spec =
     check-spill-requires
     evict-requires
     set-spill-enabled-requires
+    release-page-requires
     plain-requires
     same-length
     same-length-2
@@ -483,4 +500,7 @@ dispatch-spec =
     same-length-65
     returns-16
     returns-17
-    returns-18)
+    same-length-66
+    same-length-67
+    returns-18
+    returns-19)

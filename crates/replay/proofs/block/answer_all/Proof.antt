@@ -7,7 +7,7 @@ use Rattle.replay.proofs.block.answer_all.Statement.{statement}
 use Rattle.replay.proofs.block.answer_all.Tie as tie
 
 abbrev Inv-loop : tie.InvT-loop
-Inv-loop block count slots₀ by-key₀ by-handle₀ marks₀ list₀ out₀ states left₀ at₀ i₀ slots by-key by-handle marks list out left at i = (i ≤ count) × (32 * count ≤ length block) × (at ≤ 123000)
+Inv-loop block count slots₀ by-key₀ by-handle₀ marks₀ list₀ out₀ states left₀ at₀ i₀ slots by-key by-handle marks list out left at i = (i ≤ count) × (32 * count ≤ length block) × (at ≤ 128000)
 
 abbrev μ-loop : tie.MeasureT-loop
 μ-loop block count slots₀ by-key₀ by-handle₀ marks₀ list₀ out₀ states left₀ at₀ i₀ slots by-key by-handle marks list out left at i = count - i

@@ -1,11 +1,11 @@
--- A page takes at most 63 bytes.
+-- A page takes at most 84 bytes.
 use Prim.Native.Nat.{_+_, _-_, _*_, _≤_}
 use borrow.Author.Needs.{needs}
 use Rattle.replay.proofs.state.put_pages.Statement.{statement}
 use Rattle.replay.proofs.state.put_pages.Tie as tie
 
 abbrev Inv-loop : tie.InvT-loop
-Inv-loop out₀ at pages count next₀ i₀ out next i = (i ≤ 256) × (next ≤ at + 63 * i)
+Inv-loop out₀ at pages count next₀ i₀ out next i = (i ≤ 256) × (next ≤ at + 84 * i)
 
 abbrev μ-loop : tie.MeasureT-loop
 μ-loop out₀ at pages count next₀ i₀ out next i = 256 - i
