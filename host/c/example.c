@@ -1,4 +1,4 @@
-/* Document 01's example in C: a pool in static arrays, with room for two pages. */
+/* Document 01's example in C: a pool in static arrays, with room for two pages. Then the page that was looked up is released. */
 #include <inttypes.h>
 #include <stdio.h>
 
@@ -36,14 +36,17 @@ static void test(const char *what)
     printf("%-10s %s\n", what, pc_code_name(pc_pool_test(&pool)));
 }
 
-/* Every held page in sweep order, with its use count. */
+/* Every page of the pool in sweep order, with its use count and, if it has some, its holders. */
 static void list(void)
 {
     static uint64_t numbers[SLOTS][PC_PAGE_NUMBERS];
     printf("ring      ");
     if (pc_pool_list(&pool, numbers[0], SLOTS * PC_PAGE_NUMBERS) == PC_DONE)
-        for (uint64_t i = 0; i < pool.head[PC_HEAD_HELD]; i++)
-            printf(" %" PRIu64 "(%" PRIu64 ")", numbers[i][PC_PAGE_KEY], numbers[i][PC_PAGE_USES]);
+        for (uint64_t i = 0; i < pool.head[PC_HEAD_HELD]; i++) {
+            printf("%s %" PRIu64 "(%" PRIu64 ")", i == 0 ? "" : ",", numbers[i][PC_PAGE_KEY], numbers[i][PC_PAGE_USES]);
+            if (numbers[i][PC_PAGE_HOLDERS] != 0)
+                printf(" held %" PRIu64, numbers[i][PC_PAGE_HOLDERS]);
+        }
     printf("\n");
 }
 
@@ -56,9 +59,15 @@ int main(void)
     call("insert 20", insertion(20, 200));
     call("get 10", by_key(PC_OP_GET, 10));
     list();
+    /* 10's page has a holder, so that it is passed and 20's goes */
     call("insert 30", insertion(30, 300));
     list();
     call("get 20", by_key(PC_OP_GET, 20));
+    /* one release for the one get that found its page */
+    call("release 10", by_key(PC_OP_RELEASE, 10));
+    call("release 10", by_key(PC_OP_RELEASE, 10));
+    list();
+    /* now 10's page may go too, but has a use left, which it loses */
     call("evict_one", (struct pc_record){.operation = PC_OP_EVICT_ONE});
     list();
     call("255", (struct pc_record){.operation = 255});

@@ -18,6 +18,16 @@
  * What stands in each word is drawn at the top of crates/memory/src/lib.rt. A call is lent a list for handles too. A list of S places
  * is always long enough.
  *
+ * Holders are where a host can go wrong. A page that has some is never evicted, nor selected for a spill. Each PC_OP_GET or PC_OP_PEEK
+ * that is done adds one to the page that it found, and it stays until a PC_OP_RELEASE of the key takes it away:
+ *
+ *   - Each get and each peek that was done needs a release of its own, a peek that only asked whether the key is there among them.
+ *   - A release goes by key. After a PC_OP_FORCE_UPSERT, or a removal and another insertion, it takes from the page that stands there
+ *     now, whose holders are those of its own record: PC_HOLDER_LIMIT if it has none.
+ *   - PC_OP_WRITE_RECORD sets the holders too. A record that says fewer than there are lets a page go that is still in use: read them
+ *     back first, from a pc_list.
+ *   - PC_OP_DELETE, PC_OP_TRUNCATE, PC_OP_REMOVE_FRAMES and PC_OP_CLEAR don't look at holders, nor does the deletion of a stale page.
+ *
  * One thread at a time: nothing here locks. The functions keep nothing between calls but what they are lent, so that each thread may
  * have a pool of its own. A pool that threads share needs a lock around each call and around what is read of its list and head. */
 #ifndef PAGE_CACHE_H
@@ -57,7 +67,7 @@ enum pc_page_place {
     PC_PAGE_HANDLE = 1,
     PC_PAGE_FLAGS = 2,        /* enum pc_flag */
     PC_PAGE_PINS = 3,
-    PC_PAGE_HOLDERS = 4,
+    PC_PAGE_HOLDERS = 4,      /* those that hold the page, besides the cache */
     PC_PAGE_CELLS = 5,        /* overflow cells */
     PC_PAGE_FRAME = 6,
     PC_PAGE_USES = 7          /* the use count, 0 to 3 */
@@ -102,7 +112,9 @@ enum pc_code {
                                   function for C and Rust) */
     PC_BAD_REPLAY = 17,        /* the replay record's length, operation, option or tail is bad */
     PC_NOT_NEEDED = 18,        /* no spill is needed */
-    PC_NONE_SELECTED = 19      /* a spill is needed, and no page was selected */
+    PC_NONE_SELECTED = 19,     /* a spill is needed, and no page was selected */
+    PC_HOLDER_LIMIT = 20       /* the page has 65,535 holders, and get or peek would add one; or it has none, and release would take
+                                  one away */
 };
 /* end of what is made */
 
@@ -115,8 +127,8 @@ enum pc_operation {
     PC_OP_INSERT = 1,          /* inserts a page under an absent or stale key, and makes room for it (key, handle, page) */
     PC_OP_FORCE_INSERT = 2,    /* inserts as insert does; if that answers full, beyond the capacity (key, handle, page) */
     PC_OP_FORCE_UPSERT = 3,    /* inserts as force_insert does, or replaces the page that is there (key, handle, page) */
-    PC_OP_GET = 4,             /* looks a page up and touches it; a stale page is deleted, and is not found (key) */
-    PC_OP_PEEK = 5,            /* looks a page up, and touches it only if asked (key, option: touch) */
+    PC_OP_GET = 4,             /* looks a page up, touches it and adds a holder; a stale page is deleted, and is not found (key) */
+    PC_OP_PEEK = 5,            /* looks a page up and adds a holder; touches it only if asked (key, option: touch) */
     PC_OP_DELETE = 6,          /* deletes a page that is not locked, dirty or pinned (key) */
     PC_OP_RESIZE = 7,          /* sets the capacity, and evicts while more pages are held (number: capacity) */
     PC_OP_TRUNCATE = 8,        /* deletes the pages with a key above the limit, up to the first that refuses (number: limit) */
@@ -128,7 +140,8 @@ enum pc_operation {
     PC_OP_WRITE_RECORD = 13,   /* writes the page record of a key (key, page) */
     PC_OP_CHECK_SPILL = 14,    /* selects pages to spill, up to the number asked for, if a spill is needed (number: most) */
     PC_OP_EVICT_ONE = 15,      /* evicts one page */
-    PC_OP_SET_SPILL = 16       /* turns spilling off or on (option: off or on) */
+    PC_OP_SET_SPILL = 16,      /* turns spilling off or on (option: off or on) */
+    PC_OP_RELEASE = 17         /* takes one holder of a page away (key) */
 };
 /* end of what is made */
 
@@ -213,6 +226,7 @@ static inline const char *pc_code_name(uint32_t code)
     case PC_BAD_REPLAY: return "bad_replay";
     case PC_NOT_NEEDED: return "not_needed";
     case PC_NONE_SELECTED: return "none_selected";
+    case PC_HOLDER_LIMIT: return "holder_limit";
     default: return "no code";
     }
 }
