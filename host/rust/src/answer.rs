@@ -62,7 +62,7 @@ pub enum CacheError {
     BadRecord,
     /// The list is shorter than the pages held.
     ShortList,
-    /// The key is absent. Methods that look a key up answer `None` in its place.
+    /// The key is absent. Methods that look a key up answer `None` in its place, and [`crate::PageCache::write_record`] `false`.
     Absent,
     /// The page is locked.
     Locked {
@@ -105,6 +105,9 @@ pub enum CacheError {
     /// A spill is needed, and no page was selected. [`crate::PageCache::check_spill`] answers [`SpillResult::CacheFull`] in its
     /// place.
     NoneSelected,
+    /// The page has 65,535 holders, and a lookup would add one; or it has none, and [`crate::PageCache::release_page`] would take one
+    /// away.
+    HolderLimit,
 }
 
 impl CacheError {
@@ -132,6 +135,7 @@ impl CacheError {
             Code::BadReplay => CacheError::BadReplay,
             Code::NotNeeded => CacheError::NotNeeded,
             Code::NoneSelected => CacheError::NoneSelected,
+            Code::HolderLimit => CacheError::HolderLimit,
         })
     }
 }
@@ -160,6 +164,7 @@ impl fmt::Display for CacheError {
             CacheError::BadReplay => "the bytes are no record",
             CacheError::NotNeeded => "no spill is needed",
             CacheError::NoneSelected => "a spill is needed, and no page was selected",
+            CacheError::HolderLimit => "the page has 65,535 holders and would get one more, or has none and would lose one",
         };
         f.write_str(why)
     }

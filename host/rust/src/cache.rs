@@ -15,6 +15,7 @@ use std::fmt;
 /// let mut cache = PageCache::new(256, 200)?;
 /// cache.insert(PageCacheKey(10), PageHandle(100), Page::loaded())?;
 /// assert_eq!(cache.get(PageCacheKey(10))?, Some(PageHandle(100)));
+/// cache.release_page(PageCacheKey(10))?;
 /// # Ok::<(), page_cache::CacheError>(())
 /// ```
 pub struct PageCache<'a> {
@@ -95,15 +96,6 @@ impl<'a> PageCache<'a> {
         }
     }
 
-    /// The answer of a call that alters nothing and lists nothing. [`PageCache::last`] and [`PageCache::listed`] stay those of the
-    /// call before it.
-    fn asked<T>(&mut self, call: impl FnOnce(&mut Self) -> T) -> T {
-        let last = self.last;
-        let answer = call(self);
-        self.last = last;
-        answer
-    }
-
     /// What the last call answered.
     pub fn last(&self) -> Answer {
         self.last
@@ -172,19 +164,46 @@ impl<'a> PageCache<'a> {
         self.done(Record::new(Operation::ForceUpsert).with_key(key).with_handle(handle).with_page(page))
     }
 
-    /// Looks a page up and touches it. A stale page is deleted, and is not found.
+    /// Looks a page up, touches it and adds a holder. A stale page is deleted, and is not found.
+    ///
+    /// A page that is found stays in the cache until [`PageCache::release_page`] has taken the holder away: it is neither evicted nor
+    /// selected for a spill. Only a call that deletes pages, which doesn't look at holders, can still remove it.
     pub fn get(&mut self, key: PageCacheKey) -> Result<Option<PageHandle>, CacheError> {
         self.found(Record::new(Operation::Get).with_key(key))
     }
 
-    /// Looks a page up, and touches it only if asked.
+    /// Looks a page up and adds a holder; touches it only if asked. A stale page is found too.
+    ///
+    /// As after a [`PageCache::get`], the page stays in the cache until it is released. [`PageCache::contains_key`] adds no holder.
     pub fn peek(&mut self, key: PageCacheKey, touch: bool) -> Result<Option<PageHandle>, CacheError> {
         self.found(Record::new(Operation::Peek).with_key(key).with_option(touch))
     }
 
-    /// Whether a page stands under the key, stale or not. It is a [`PageCache::peek`] without a touch, which alters nothing.
-    /// [`PageCache::last`] and [`PageCache::listed`] stay as they were. It takes `&mut self`, since the library's function is lent
-    /// the memory to alter it.
+    /// Takes one holder away from the page under the key: to be called once for each [`PageCache::get`] and [`PageCache::peek`] that
+    /// found a page. It is what the drop of a clone is in the original. It can't tell whose holder it takes.
+    ///
+    /// It goes by key. After an upsert, or a removal and another insertion, it takes from the page that stands there now, whose
+    /// holders are those of its own record.
+    ///
+    /// ```
+    /// # use page_cache::{CacheError, Page, PageCache, PageCacheKey, PageHandle};
+    /// let mut cache = PageCache::new(4, 1)?;
+    /// cache.insert(PageCacheKey(5), PageHandle(50), Page::loaded())?;
+    /// assert_eq!(cache.get(PageCacheKey(5))?, Some(PageHandle(50)));
+    /// assert_eq!(cache.insert(PageCacheKey(6), PageHandle(60), Page::loaded()), Err(CacheError::Full));
+    /// cache.release_page(PageCacheKey(5))?;
+    /// cache.insert(PageCacheKey(6), PageHandle(60), Page::loaded())?;
+    /// assert_eq!(cache.listed(), [PageHandle(50)]);
+    /// assert_eq!(cache.release_page(PageCacheKey(5)), Err(CacheError::Absent));
+    /// assert_eq!(cache.release_page(PageCacheKey(6)), Err(CacheError::HolderLimit));
+    /// # Ok::<(), CacheError>(())
+    /// ```
+    pub fn release_page(&mut self, key: PageCacheKey) -> Result<(), CacheError> {
+        self.done(Record::new(Operation::Release).with_key(key))
+    }
+
+    /// Whether a page stands under the key, stale or not. The listing tells, which alters nothing: a [`PageCache::peek`] would add a
+    /// holder, and refuses a page that has as many as there can be. [`PageCache::last`] and [`PageCache::listed`] stay as they were.
     ///
     /// ```
     /// # use page_cache::{Page, PageCache, PageCacheKey, PageHandle};
@@ -195,8 +214,8 @@ impl<'a> PageCache<'a> {
     /// assert!(!cache.contains_key(PageCacheKey::new(5))?);
     /// # Ok::<(), page_cache::CacheError>(())
     /// ```
-    pub fn contains_key(&mut self, key: PageCacheKey) -> Result<bool, CacheError> {
-        self.asked(|cache| cache.peek(key, false)).map(|found| found.is_some())
+    pub fn contains_key(&self, key: PageCacheKey) -> Result<bool, CacheError> {
+        Ok(self.list()?.iter().any(|page| page.key == key))
     }
 
     /// Deletes a page that is not locked, dirty or pinned. An absent key is done.
@@ -249,6 +268,23 @@ impl<'a> PageCache<'a> {
     }
 
     /// Writes a page's record, and says whether the key is there.
+    ///
+    /// The record's holders take the place of those that lookups added. One that says fewer lets a page go that is still in use, so
+    /// they have to be read back before:
+    ///
+    /// ```
+    /// # use page_cache::{CacheError, Page, PageCache, PageCacheKey, PageHandle};
+    /// # let mut cache = PageCache::new(4, 2)?;
+    /// # let key = PageCacheKey(5);
+    /// # cache.insert(key, PageHandle(50), Page::loaded())?;
+    /// cache.get(key)?;
+    /// if let Some(listed) = cache.list()?.iter().find(|listed| listed.key == key) {
+    ///     cache.write_record(key, Page { flags: Page::LOADED | Page::DIRTY, ..listed.page })?;
+    /// }
+    /// # assert_eq!(cache.list()?[0].page, Page { holders: 1, ..Page::with(Page::LOADED | Page::DIRTY) });
+    /// cache.release_page(key)?;
+    /// # Ok::<(), CacheError>(())
+    /// ```
     pub fn write_record(&mut self, key: PageCacheKey, page: Page) -> Result<bool, CacheError> {
         self.found(Record::new(Operation::WriteRecord).with_key(key).with_page(page)).map(|found| found.is_some())
     }
@@ -291,7 +327,10 @@ impl<'a> PageCache<'a> {
     /// # Ok::<(), page_cache::CacheError>(())
     /// ```
     pub fn needs_spill(&mut self) -> Result<bool, CacheError> {
-        match self.asked(|cache| cache.check_spill(0))? {
+        let last = self.last;
+        let checked = self.check_spill(0);
+        self.last = last;
+        match checked? {
             SpillResult::NotNeeded => Ok(false),
             SpillResult::CacheFull | SpillResult::PagesToSpill(_) => Ok(true),
         }

@@ -68,6 +68,8 @@ numbered! {
         EvictOne = 15,
         /// [`crate::PageCache::set_spill_enabled`]
         SetSpill = 16,
+        /// [`crate::PageCache::release_page`]
+        Release = 17,
     }
 }
 
@@ -114,5 +116,7 @@ numbered! {
         NotNeeded = 18,
         /// A spill is needed, and no page was selected.
         NoneSelected = 19,
+        /// The page has 65,535 holders and would get one more, or has none and would lose one.
+        HolderLimit = 20,
     }
 }

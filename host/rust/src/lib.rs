@@ -5,6 +5,9 @@
 //! the original's, and every refusal is a [`CacheError`] of its own. [`PageCache::last`] has the rest of each answer, and
 //! [`PageCache::listed`] the handles that left the cache.
 //!
+//! A page that was looked up is held, and stays in the cache, until it is released. In the original a clone of the page does that, and
+//! lets go when it is dropped; here nothing is dropped, and [`PageCache::release_page`] has to be called.
+//!
 //! One thread at a time: nothing here locks. A cache that threads share needs a lock around it, a `Mutex<PageCache>`.
 //!
 //! ```
@@ -15,11 +18,14 @@
 //! cache.insert(PageCacheKey(20), PageHandle(200), Page::loaded())?;
 //! assert_eq!(cache.get(PageCacheKey(10))?, Some(PageHandle(100)));
 //!
-//! // key 10 was used since it came, so the third page takes the place of key 20
+//! // key 10's page has a holder, so the third page takes the place of key 20
 //! cache.insert(PageCacheKey(30), PageHandle(300), Page::loaded())?;
 //! assert_eq!(cache.listed(), [PageHandle(200)]);
 //! assert_eq!(cache.last().passed, 1);
 //! assert_eq!(cache.get(PageCacheKey(20))?, None);
+//!
+//! // the page of key 10 is no longer read: from now on it may go
+//! cache.release_page(PageCacheKey(10))?;
 //! # Ok::<(), page_cache::CacheError>(())
 //! ```
 

@@ -33,7 +33,9 @@ pub struct Page {
     pub flags: u8,
     /// How often the page is pinned.
     pub pins: u16,
-    /// How many others hold the page.
+    /// How many hold the page besides the cache. A page that has some is never evicted, nor selected for a spill.
+    /// [`crate::PageCache::get`] and [`crate::PageCache::peek`] add one, [`crate::PageCache::release_page`] takes one away, and a record
+    /// that is inserted or written sets them.
     pub holders: u16,
     /// Its overflow cells.
     pub cells: u8,

@@ -37,7 +37,8 @@ impl Chance {
         let page = Page {
             flags: if self.below(20) == 0 { self.next() as u8 } else { self.below(32) as u8 },
             pins: (self.below(5) == 0) as u16,
-            holders: (self.below(5) == 0) as u16,
+            // lookups add holders to those, up to the most that there can be
+            holders: [0, 0, 0, 1, 2, u16::MAX - 1, u16::MAX][self.below(7) as usize],
             cells: (self.below(5) == 0) as u8,
             frame: if self.below(4) == 0 { self.odd() } else { self.below(keys) },
         };
@@ -54,6 +55,8 @@ impl Chance {
 }
 
 const INSERTIONS: [Operation; 3] = [Operation::Insert, Operation::ForceInsert, Operation::ForceUpsert];
+// as often the one as the other, so that pages that were found can go again
+const GET_OR_RELEASE: [Operation; 2] = [Operation::Get, Operation::Release];
 
 /// Elements that stand on both sides of what is lent.
 const MARGIN: usize = 3;
@@ -159,7 +162,7 @@ fn sound_pool(chance: &mut Chance) -> Lent {
     let keys = 1 + chance.below(2 * size as u64 + 4);
     for _ in 0..chance.below(3 * size as u64 + 8) {
         let mut record = chance.record(keys);
-        record.operation = if chance.below(2) == 0 { chance.one_of(&INSERTIONS) } else { Operation::Get };
+        record.operation = if chance.below(2) == 0 { chance.one_of(&INSERTIONS) } else { chance.one_of(&GET_OR_RELEASE) };
         pool.apply(&record.bytes());
     }
     assert_eq!(pool.test(), Code::Done);
@@ -336,7 +339,9 @@ fn refusals_alter_nothing() {
     // the test is worth something only if both sides come up: refusals of every kind, and calls that are done
     let times = |code: Code| seen[code.number() as usize];
     use Code::*;
-    for code in [Done, NotSound, BadRecord, ShortList, Absent, Full, HandleElsewhere, TooLarge, BadLengths, BadReplay] {
+    for code in [
+        Done, NotSound, BadRecord, ShortList, Absent, Full, HandleElsewhere, TooLarge, BadLengths, BadReplay, HolderLimit,
+    ] {
         assert!(times(code) > 0, "{code:?} never came");
     }
     assert!(times(NotSound) * 20 > made && times(Done) * 20 > made);

@@ -21,7 +21,8 @@ fn call(cache: &mut PageCache, record: &[u8]) -> Answer {
         frame: n,
     };
     let option = record[15] == 1;
-    let refusal = match Operation::from_number(record[0]).expect("an operation") {
+    let operation = Operation::from_number(record[0]).expect("an operation");
+    let refusal = match operation {
         Operation::Create => cache.create(n).err(),
         Operation::Insert => cache.insert(key, handle, page).err(),
         Operation::ForceInsert => cache.force_insert_page(key, handle, page).err(),
@@ -39,11 +40,17 @@ fn call(cache: &mut PageCache, record: &[u8]) -> Answer {
         Operation::CheckSpill => cache.check_spill(n).err(),
         Operation::EvictOne => cache.evict_one().err(),
         Operation::SetSpill => cache.set_spill_enabled(option).err(),
+        Operation::Release => cache.release_page(key).err(),
         other => panic!("{other:?} has no method"),
     };
     let answer = cache.last();
     use Code::{Absent, Done, NoneSelected, NotNeeded, PendingEvictions};
-    let is_result = matches!(answer.code, Done | Absent | PendingEvictions | NotNeeded | NoneSelected);
+    let is_result = match answer.code {
+        Done | PendingEvictions | NotNeeded | NoneSelected => true,
+        // who releases a page had found it
+        Absent => operation != Operation::Release,
+        _ => false,
+    };
     assert_eq!(refusal, answer.error().filter(|_| !is_result), "{:?}", answer.code);
     answer
 }
