@@ -26,11 +26,13 @@ fn prepared(record: &Record) -> Call {
 pub struct Cache {
     cache: PageCache,
     calls: Vec<Call>,
+    /// What the last lookup found. The next one lets go of it, or its release before that.
+    found: Option<PageRef>,
 }
 
 impl Cache {
     pub fn ready(pages: usize, load: &Load) -> Self {
-        let mut cache = Cache { cache: PageCache::new(pages), calls: load.held.iter().map(prepared).collect() };
+        let mut cache = Cache { cache: PageCache::new(pages), calls: load.held.iter().map(prepared).collect(), found: None };
         cache.run();
         assert_eq!(cache.cache.len(), load.held.len());
         take_removed();
@@ -42,7 +44,8 @@ impl Cache {
         for call in &mut self.calls {
             match call.operation {
                 Operation::Insert => drop(black_box(self.cache.insert(call.key, call.page.take().expect("a page")))),
-                Operation::Get => drop(black_box(self.cache.get(&call.key))),
+                Operation::Get => self.found = black_box(self.cache.get(&call.key)).expect("no page is refused"),
+                Operation::Release => drop(self.found.take().expect("a lookup was before it")),
                 Operation::Delete => drop(black_box(self.cache.delete(call.key))),
                 other => panic!("{other:?}"),
             }

@@ -4,8 +4,10 @@ use page_cache::{Code, Operation, Page, PageCache, PageCacheKey, PageHandle, Rec
 /// What a load consists of.
 #[derive(Clone, Copy, PartialEq, Eq)]
 pub enum Shape {
-    /// Lookups of held pages in a full cache.
+    /// Lookups of held pages in a full cache. Nothing has to go from it, and none of them is released.
     Lookup,
+    /// The same, each lookup followed by its release: half lookups, half releases.
+    LookupRelease,
     /// Insertions into an empty cache until it is full, keys in random order.
     InsertRoom,
     /// Insertions of new keys into a full cache; each evicts one page that was never used.
@@ -19,13 +21,15 @@ pub enum Shape {
     FirstSlot,
     /// The same with the page in the last slot, before which no slot is free.
     LastSlot,
-    /// Lookups over a quarter more keys than fit, each miss followed by an insertion, and a deletion in twenty calls.
+    /// Lookups over a quarter more keys than fit, each hit followed by its release and each miss by an insertion, and a deletion in
+    /// twenty calls.
     Mixed,
 }
 
 impl Shape {
-    pub const ALL: [Shape; 8] = [
+    pub const ALL: [Shape; 9] = [
         Shape::Lookup,
+        Shape::LookupRelease,
         Shape::InsertRoom,
         Shape::InsertEvict,
         Shape::Delete,
@@ -38,6 +42,7 @@ impl Shape {
     fn name(self) -> &'static str {
         match self {
             Shape::Lookup => "lookup, hit",
+            Shape::LookupRelease => "lookup or release, hit",
             Shape::InsertRoom => "insert with room",
             Shape::InsertEvict => "insert with eviction",
             Shape::Delete => "delete",
@@ -85,7 +90,8 @@ fn by_key(operation: Operation, key: u32) -> Record {
     Record::new(operation).with_key(PageCacheKey(key))
 }
 
-/// The calls of the mixed load. A cache tells which lookups miss: the Rust asserts if a key comes again with another page.
+/// The calls of the mixed load. A cache tells which lookups hit and which miss: a page that isn't released never goes, and the Rust
+/// asserts if a key comes again with another page.
 fn mixed(chance: &mut Chance, pages: usize, held: &[Record]) -> Vec<Record> {
     let mut cache = PageCache::new(pages, pages as u64).expect("a pool");
     for record in held {
@@ -94,10 +100,13 @@ fn mixed(chance: &mut Chance, pages: usize, held: &[Record]) -> Vec<Record> {
     let mut calls = Vec::new();
     while calls.len() < 20_000 {
         let key = 2 + chance.below(pages + pages / 4) as u32;
-        calls.push(by_key(if chance.below(20) == 0 { Operation::Delete } else { Operation::Get }, key));
-        if cache.apply(&calls[calls.len() - 1].bytes()).code == Code::Absent {
-            calls.push(insertion(key, Page::LOADED));
-            cache.apply(&calls[calls.len() - 1].bytes());
+        let call = by_key(if chance.below(20) == 0 { Operation::Delete } else { Operation::Get }, key);
+        let code = cache.apply(&call.bytes()).code;
+        calls.push(call);
+        if call.operation == Operation::Get {
+            let next = if code == Code::Done { by_key(Operation::Release, key) } else { insertion(key, Page::LOADED) };
+            assert_eq!(cache.apply(&next.bytes()).code, Code::Done);
+            calls.push(next);
         }
     }
     calls
@@ -115,6 +124,10 @@ impl Load {
         let (held, calls) = match shape {
             Shape::Lookup => {
                 (fill(loaded), (0..20_000).map(|_| by_key(Operation::Get, 2 + chance.below(pages) as u32)).collect())
+            }
+            Shape::LookupRelease => {
+                let pairs = (0..10_000).map(|_| 2 + chance.below(pages) as u32);
+                (fill(loaded), pairs.flat_map(|key| [by_key(Operation::Get, key), by_key(Operation::Release, key)]).collect())
             }
             Shape::InsertRoom => (Vec::new(), fill(loaded)),
             Shape::InsertEvict => (fill(loaded), (0..10_000).map(|i| insertion(n + 2 + i, loaded)).collect()),
