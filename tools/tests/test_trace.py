@@ -15,6 +15,7 @@ import sharing
 TOP = os.path.dirname(os.path.dirname(os.path.dirname(os.path.abspath(__file__))))
 LENGTH = 32
 TRACE = sharing.loaded(os.path.join(TOP, 'tools/trace'))
+CASES = sharing.loaded(os.path.join(TOP, 'tools/replay-cases'))
 
 
 class Run:
@@ -60,7 +61,7 @@ class Encoding(unittest.TestCase):
     def test_every_call(self):
         lines = ['create 2', 'insert 1 handle=0', 'force_insert 1 handle=0', 'force_upsert 1 handle=0', 'get 1', 'peek 1',
                  'delete 1', 'resize 3', 'truncate 20', 'remove_frames 7', 'clear', 'notify_dirty 1', 'notify_spilled 1',
-                 'write_record 1', 'check_spill 3', 'evict_one', 'set_spill off']
+                 'write_record 1', 'check_spill 3', 'evict_one', 'set_spill off', 'release 1']
         records = trace('encode', data='\n'.join(lines).encode()).stdout
         self.assertEqual(list(records[::LENGTH]), list(range(len(TRACE.FORMS))))
         self.assertEqual(trace('decode', data=records).stdout.decode().splitlines(), lines)
@@ -69,6 +70,11 @@ class Encoding(unittest.TestCase):
         for line, option in ((b'peek 1 touch', 1), (b'peek 1', 0), (b'clear dirty', 1), (b'clear', 0), (b'set_spill on', 1),
                              (b'set_spill off', 0)):
             self.assertEqual(trace('encode', data=line).stdout[15], option, line)
+
+    def test_release(self):
+        record = trace('encode', data=b'release 10').stdout
+        self.assertEqual(record, b'\x11\0\0\0\x0a' + bytes(27))
+        self.assertEqual(trace('decode', data=record).stdout, b'release 10\n')
 
     def test_flags_that_have_no_words(self):
         record = trace('encode', data=b'write_record 5 flags=200').stdout
@@ -136,7 +142,8 @@ class Refusals(unittest.TestCase):
     def test_bad_lines(self):
         for line, why in (
                 (b'fetch 1', 'unknown call'), (b'get', 'key is missing'), (b'get x', 'not a number'),
-                (b'get -1', 'not a number'), (b'get 1 2', 'unknown word'), (b'get 1 touch', 'unknown word'), (b'insert 5', 'handle=NUMBER is missing'),
+                (b'get -1', 'not a number'), (b'get 1 2', 'unknown word'), (b'get 1 touch', 'unknown word'), (b'release', 'key is missing'),
+                (b'release 5 holders=1', 'nothing named'), (b'release 5 touch', 'unknown word'), (b'insert 5', 'handle=NUMBER is missing'),
                 (b'insert 5 loaded', 'handle=NUMBER is missing'), (b'write_record 5 handle=1', 'nothing named'),
                 (b'set_spill', 'off or on'),
                 (b'insert 5 handle=1 handle=1', 'given twice'), (b'insert 5 handle=1 loaded loaded', 'given twice'),
@@ -180,13 +187,41 @@ class Showing(unittest.TestCase):
             return trace('show', '--program', f'sh {program.name}', *words, data=text)
 
     def test_example(self):
-        run = self.shown(['0 0 0 0 - 0', '- 2 1 0 0', '0 0 0 1 10 0', '- 2 1 1 1 10:100:0',
-                          '0 0 1 1 10 1 200', '- 2 1 2 2 10:100:0 30:300:3', '6 10 0 2 10 0', '- 2 1 1 1 10:100:1'],
+        run = self.shown(['0 0 0 0 - 0', '- 2 1 0 0', '0 0 0 1 10 0', '- 2 1 1 1 10:100:0:0',
+                          '0 0 1 1 10 1 200', '- 2 1 2 2 10:100:0:0 30:300:3:0', '6 10 0 2 10 0', '- 2 1 1 1 10:100:1:0'],
                          b'create 2\ninsert 10 handle=100\nevict_one\ndelete 10')
         rows = [re.split('   *', line) for line in run.stdout.decode().splitlines()[1:]]
         self.assertEqual(rows, [['create 2', 'done', 'empty'], ['insert 10 handle=100', 'done', '10(0)'],
-                                ['evict_one', 'done, passed 1, removed 200', '10(0) 30(3)'],
+                                ['evict_one', 'done, passed 1, removed 200', '10(0), 30(3)'],
                                 ['delete 10', 'dirty, key 10', '10(1)']])
+
+    def test_holders(self):
+        run = self.shown(['0 100 0 2 10 0', '- 2 1 2 2 10:100:1:2 30:300:0:0', '0 0 0 2 10 0', '- 2 1 2 2 10:100:1:1 30:300:0:65535',
+                          '20 0 0 2 10 0', '- 2 1 2 2 10:100:1:1 30:300:0:65535', '0 0 0 2 10 0', '- 2 1 2 2 10:100:1:0 30:300:0:65535'],
+                         b'get 10\nrelease 10\npeek 30\nrelease 10')
+        rows = [re.split('   *', line) for line in run.stdout.decode().splitlines()[1:]]
+        self.assertEqual(rows, [['get 10', 'found 100', '10(1) held 2, 30(0)'], ['release 10', 'done', '10(1) held 1, 30(0) held 65535'],
+                                ['peek 30', 'holder_limit', '10(1) held 1, 30(0) held 65535'],
+                                ['release 10', 'done', '10(1), 30(0) held 65535']])
+
+    def test_states_that_are_none(self):
+        """Without holders, with a number too many, cut off, or nothing of the kind."""
+        for state in ('- 2 1 1 1 10:100:0', '- 2 1 2 2 10:100:0:1 30:300:0', '- 2 1 1 1 10:100:0:1:1', '- 2 1 1 1 10:100:0:', '- 2 1 1',
+                      '- 2 1 1 1 10:100:0:x', '0 0 0 0 - 0', 'no cache'):
+            run = self.shown(['0 0 0 1 10 0', state], b'get 10')
+            self.assertEqual((run.returncode, run.stdout), (1, b''), state)
+            self.assertIn(f"'{state}' is no state of a pool", run.stderr)
+
+    def test_readme(self):
+        """The README shows the example's answers and rings as tools/replay-cases has them, worked out by hand."""
+        example = CASES.STATES[1:1 + len(CASES.EXAMPLE)]
+        calls = [TRACE.call_of(TRACE.unpacked(record)) for record, _ in example]
+        self.assertEqual([line for line in content('traces/example.txt').decode().splitlines() if line[0] != '#'], calls)
+        lines = [line for _, lines in example for line in lines.split('\n')]
+        self.assertEqual(lines[::2], [line for _, line in CASES.EXAMPLE])
+        readme = content('README.md').decode()
+        for shown in (CASES.lines([CASES.EXAMPLE]), self.shown(lines, content('traces/example.txt')).stdout):
+            self.assertIn(f'\n```\n{shown.decode()}```\n', readme)
 
     def test_found_replaced_selected(self):
         run = self.shown(['1 0 0 0 - 0', '- no cache', '0 5 0 0 - 0', '- no cache', '0 6 0 0 - 0', '- no cache',
