@@ -4,7 +4,7 @@ An operation has
     number        the operation byte of its replay record
     name          the one word for it: in text traces, in scripts and, spelt as the language wants it, in the C header
                   (PC_OP_GET), in the Rust crate and the oracle (Operation::Get)
-    document 01   document 01's words for it
+    document 01   document 01's words for it, or those of the request that added it
     fields        what of the record it uses, each field's meaning after a '=': of an option the word that means 1, or both
                   words with a '/' between them; '-' if it uses nothing
     answers       the numbers of the answers that it can give

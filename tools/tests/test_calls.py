@@ -194,12 +194,15 @@ PLACES = {
     'operations of the Rust crate': (
         CRATE, crate_operations, [(operation.camel(), operation.number, operation.function) for operation in OPERATIONS], [
             ('Get = 4,', 'Get = 14,'),
+            ('Release = 17,', 'Release = 7,'),
+            ('::release_page`]', '::release`]'),
             ('RemoveFrames = 9,', 'FrameRemoval = 9,'),
             ('::evict_one`]', '::delete`]'),
         ]),
     'codes of the Rust crate': (CRATE, crate_codes, CAMEL_ANSWERS, [
         ('Full = 8,', 'Full = 18,'),
         ('        Empty = 14,\n', ''),
+        ('HolderLimit = 20,', 'HolderLimit = 19,'),
     ]),
     'errors of the Rust crate': (CRATE_ERRORS, crate_errors, [(answer.camel(), answer.gives_key) for answer in ANSWERS[1:]], [
         ('    /// Every slot is taken.\n    NoSlot,\n', ''),
@@ -256,6 +259,7 @@ class Made(unittest.TestCase):
         for path, old, new in (
                 (TOOL.HEADER, 'PC_FULL = 8,', 'PC_FULL = 7,'), (TOOL.HEADER, 'PC_OP_GET = 4,', 'PC_OP_LOOKUP = 4,'),
                 (TOOL.HEADER, '    case PC_NOT_NEEDED: return "not_needed";\n', ''),
+                (TOOL.HEADER, 'PC_OP_RELEASE = 17 ', 'PC_OP_RELEASE = 18 '), (TOOL.HEADER, 'PC_HOLDER_LIMIT = 20 ', 'PC_HOLDER_LIMIT = 21 '),
                 (TOOL.TRACES, '| 9 | `remove_frames LIMIT`', '| 8 | `remove_frames LIMIT`'),
                 (TOOL.TRACES, '| 17 | `bad_replay`', '| 17 | `bad_record`'),
                 (TOOL.RULES, '| 9 | `remove_frames` | frame removal |', '| 9 | `remove_frames` | truncation |')):
