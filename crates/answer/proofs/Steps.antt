@@ -17,14 +17,13 @@ use Rattle.page.specs.declared.record.Deletable.{Deletable}
 use Rattle.page.specs.declared.record.Deletable.the-variants.{Yes, Locked, Dirty, Pinned}
 use Rattle.page.specs.declared.record.Recount.{Recount}
 use Rattle.page.specs.declared.record.Recount.the-variants.{Now, AtLimit}
-use Rattle.model.specs.Cache.{Cache, heldIn, leave, touch, rewrite}
+use Rattle.model.specs.Cache.{Cache, heldIn, leave}
 use Rattle.model.specs.Call.{Call, Outcome, answer, listing, touching}
 use Rattle.model.specs.Rooms.{Room, following}
 use Rattle.model.specs.Row.{Page}
-use Rattle.model.specs.Rules.{deleting, hit}
+use Rattle.model.specs.Rules.{deleting, hitWith, hit}
 use Rattle.model.specs.Step.{act, step}
 use Rattle.model.specs.Tests.{asks, tooLarge, badRecord, shortList, handleElsewhere, refusal}
-use Rattle.model.proofs.KeptCases.{either}
 use Rattle.model.proofs.KeptTests.{Passes}
 use Rattle.memory.specs.Memory.{Memory}
 use Rattle.memory.specs.Holds.{Holds}
@@ -176,19 +175,11 @@ module _ (p : Page) (follow : Cache → Outcome) (c : Cache) where
   deleting-refused Pinned because may-not = ap decided because
 
 -- ── rule 9 ───────────────────────────────────────────────────────────────────
-abbrev Unlisted : Outcome → Type 0
-Unlisted o = o .listed ≡ []
-
 -- a hit lists nothing
 pub hit-unlisted : (key : ℕ) (asked : Bool) (p : Page) (c : Cache) → hit key asked p c .listed ≡ []
-hit-unlisted key asked p c = go (oneHolderMore (p .state))
+hit-unlisted key asked p c = go (oneHolderMore (p .state)) asked
   where
-    go : (r : Recount) → Unlisted (elim r [
-      | Now state ↦ elim asked [
-        | true ↦ touching (answer 0 (p .handle) (touch key (rewrite key state c)))
-        | false ↦ answer 0 (p .handle) (rewrite key state c)
-      ]
-      | AtLimit ↦ answer 20 0 c
-    ])
-    go (Now state) = either Unlisted asked (λ _. refl) (λ _. refl)
-    go AtLimit = refl
+    go : (r : Recount) (b : Bool) → hitWith key r b p c .listed ≡ []
+    go (Now state) true = refl
+    go (Now state) false = refl
+    go AtLimit b = refl

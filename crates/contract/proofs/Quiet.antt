@@ -10,9 +10,9 @@ use Rattle.page.specs.declared.record.PageRecord.{PageRecord}
 use Rattle.page.specs.declared.record.Recount.{Recount}
 use Rattle.page.specs.declared.record.Recount.the-variants.{Now, AtLimit}
 use Rattle.model.specs.Row.{Entry, find}
-use Rattle.model.specs.Cache.{Cache, up, down, rewrite}
-use Rattle.model.specs.Call.{Call, Outcome, answer, peek, release, notify-dirty, notify-spilled, write, switch}
-use Rattle.model.specs.Rules.{peekFound, releaseFound, notified, writeFound}
+use Rattle.model.specs.Cache.{Cache, up, down}
+use Rattle.model.specs.Call.{Call, Outcome, peek, release, notify-dirty, notify-spilled, write, switch}
+use Rattle.model.specs.Rules.{peekFound, releaseWith, releaseFound, notified, writeFound}
 use Rattle.model.specs.Step.{act, tested, step}
 use Rattle.model.specs.Tests.{refusal}
 use Rattle.model.proofs.KeptCases.{either}
@@ -20,9 +20,6 @@ use Rattle.memory.specs.Memory.{Memory}
 use Rattle.answer.specs.Answer.{Follows, MatchesOutcome}
 use Rattle.answer.specs.declared.answered.Answered.{Answered}
 use Rattle.answer.proofs.Steps.{unlisted-comes, hit-unlisted}
-
-abbrev Unlisted : Outcome → Type 0
-Unlisted o = o .listed ≡ []
 
 -- calls that list nothing by their rules
 pub record Quiet (call : Call) : Type 0 where
@@ -53,7 +50,7 @@ pub quiet-release : (key : ℕ) → Quiet (release key)
 unfolding act
 quiet-release key = record { silent = λ c. go (find key (c .row)) c }
   where
-    less : (r : Recount) (c : Cache) → Unlisted (elim r [ Now state ↦ answer 0 0 (rewrite key state c) | AtLimit ↦ answer 20 0 c ])
+    less : (r : Recount) (c : Cache) → releaseWith key r c .listed ≡ []
     less (Now state) c = refl
     less AtLimit c = refl
 
@@ -71,7 +68,7 @@ quiet-write key state = record { silent = λ c. go (find key (c .row)) c }
 
 quiet-notice : (by : ℕ → ℕ) (found : Option Entry) (c : Cache) → notified by found c .listed ≡ []
 quiet-notice by none c = refl
-quiet-notice by (some e) c = either Unlisted (pageOne (e .page .key)) (λ _. refl) (λ _. refl)
+quiet-notice by (some e) c = either (λ (o : Outcome). o .listed ≡ []) (pageOne (e .page .key)) (λ _. refl) (λ _. refl)
 
 pub quiet-dirty : (key : ℕ) → Quiet (notify-dirty key)
 unfolding act

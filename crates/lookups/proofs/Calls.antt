@@ -15,9 +15,9 @@ use Rattle.page.specs.declared.record.Recount.{Recount}
 use Rattle.page.specs.declared.record.Recount.the-variants.{Now, AtLimit}
 use Rattle.pool.specs.Slots.{blank, entries}
 use Rattle.model.specs.Cache.{Cache, touch, rewrite}
-use Rattle.model.specs.Call.{Outcome, lookup, peek, release, answer, touching}
-use Rattle.model.specs.Row.{Page, Entry, find}
-use Rattle.model.specs.Rules.{deleting, hit, lookupFound, peekFound, releaseFound}
+use Rattle.model.specs.Call.{Outcome, lookup, peek, release, answer}
+use Rattle.model.specs.Row.{Entry, find}
+use Rattle.model.specs.Rules.{deleting, hitWith, hit, lookupFound, peekFound, releaseWith, releaseFound}
 use Rattle.model.specs.Step.{act, step}
 use Rattle.memory.specs.Memory.{Memory}
 use Rattle.memory.specs.Holds.{Holds, seen}
@@ -45,20 +45,6 @@ more-flags p = same-flags p (p .holders + 1) (ltb (p .holders) holdersMax)
 
 less-flags : (p : PageRecord) → SameFlags p (oneHolderLess p)
 less-flags p = same-flags p (p .holders - 1) (ltb 0 (p .holders))
-
--- ── a hit ────────────────────────────────────────────────────────────────────
-module _ (key : ℕ) (asked : Bool) (p : Page) (c : Cache) where
-  abbrev hitWith : Recount → Outcome
-  hitWith r = elim r [
-    | Now state ↦ elim asked [
-      | true ↦ touching (answer 0 (p .handle) (touch key (rewrite key state c)))
-      | false ↦ answer 0 (p .handle) (rewrite key state c)
-    ]
-    | AtLimit ↦ answer 20 0 c
-  ]
-
-  hit-is : {r : Recount} → oneHolderMore (p .state) ≡ r → hit key asked p c ≡ hitWith r
-  hit-is is = ap hitWith is
 
 -- ── by what was found ────────────────────────────────────────────────────────
 module _ (key : ℕ) (c : Cache) {found : Option Entry} (is : find key (c .row) ≡ found) where
@@ -108,10 +94,10 @@ module _ {m : Memory} {head : PageCache} {c : Cache} {key s : ℕ} {e : Entry} (
   less-good counted is = recount-good (rw counted (less-flags (stored .page))) is
 
   module _ (asked : Bool) {r : Recount} (counted : r ≡ oneHolderMore (stored .page)) where
-    hit-comes : {m′ : Memory} {a : Answered} → Follows (hitWith key asked (seen s stored .page) c r) m′ a → Follows (hit key asked (e .page) c) m′ a
+    hit-comes : {m′ : Memory} {a : Answered} → Follows (hitWith key r asked (seen s stored .page) c) m′ a → Follows (hit key asked (e .page) c) m′ a
     hit-comes {m′} {a} f =
         subst (λ (x : Entry). Follows (hit key asked (x .page) c) m′ a) (stored-is H at loaded)
-        (follows-as (hit-is key asked (seen s stored .page) c (sym counted)) f)
+        (subst (λ (x : Recount). Follows (hitWith key x asked (seen s stored .page) c) m′ a) counted f)
 
     pub hit-limit : r ≡ AtLimit → Follows (hit key asked (e .page) c) m (plainly HolderLimit head)
     hit-limit is = hit-comes (rw is (plain-follows HolderLimit H))
@@ -126,13 +112,11 @@ module _ {m : Memory} {head : PageCache} {c : Cache} {key s : ℕ} {e : Entry} (
 
   -- ── release ────────────────────────────────────────────────────────────────
   module _ {r : Recount} (counted : r ≡ oneHolderLess (stored .page)) where
-    release-comes : {m′ : Memory} {a : Answered}
-        → Follows (elim r [ Now state ↦ answer 0 0 (rewrite key state c) | AtLimit ↦ answer 20 0 c ]) m′ a
-        → Follows (step (release key) c) m′ a
+    release-comes : {m′ : Memory} {a : Answered} → Follows (releaseWith key r c) m′ a → Follows (step (release key) c) m′ a
     release-comes {m′} {a} f =
         follows-as (release-found key c (at .found))
         (subst (λ (x : Entry). Follows (releaseFound key (some x) c) m′ a) (stored-is H at loaded)
-        (rw counted at f))
+        (subst (λ (x : Recount). Follows (releaseWith key x c) m′ a) counted f))
 
     pub release-limit : r ≡ AtLimit → Follows (step (release key) c) m (plainly HolderLimit head)
     release-limit is = release-comes (rw is (plain-follows HolderLimit H))

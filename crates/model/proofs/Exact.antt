@@ -18,17 +18,17 @@ use Rattle.page.specs.declared.record.Recount.{Recount}
 use Rattle.page.specs.declared.record.Recount.the-variants.{Now, AtLimit}
 use Rattle.model.specs.Row.{Page, Entry, Row, total, find, byKey, those}
 use Rattle.model.specs.Sweep.{touched}
-use Rattle.model.specs.Cache.{Cache, heldIn, withCapacity, up, down, leave, newPage, touch, rewritten, rewrite, replacedEntry}
+use Rattle.model.specs.Cache.{Cache, heldIn, withCapacity, up, down, leave, newPage, touch, rewritten, replacedEntry}
 use Rattle.model.specs.Call.{Insertion, plain, forced, upsert, Call, create, insert, lookup, peek, release, delete, resize, truncate, remove-frames, clear, notify-dirty, notify-spilled, write, spill, evict-one, switch, Outcome, answer, listing, touching}
 use Rattle.model.specs.Tests.{refusal}
 use Rattle.model.specs.Limits.{CacheInvariant}
 use Rattle.model.specs.Rooms.{Room, sweepOf, evicted, enough, sweeping, evictTo, makeRoom, following}
 use Rattle.model.specs.Evictions.{EvictsTo}
 use Rattle.model.specs.Evictions as evictions
-use Rattle.model.specs.Rules.{deleting, deleteFound, place, placeIfFree, onFull, inRoom, admit, keyExists, present, insertFound, onInsert, hit, lookupFound, peekFound, releaseFound, onResize, deleteEach, newerThan, emptied, clearUnless, onClear, notified, writeFound, evictFrom}
+use Rattle.model.specs.Rules.{deleting, deleteFound, place, placeIfFree, onFull, inRoom, admit, keyExists, present, insertFound, onInsert, hitWith, hit, lookupFound, peekFound, releaseWith, releaseFound, onResize, deleteEach, newerThan, emptied, clearUnless, onClear, notified, writeFound, evictFrom}
 use Rattle.model.specs.Spill.{needsSpill, selection, selected, onSpill}
 use Rattle.model.specs.Step.{act, tested, step, run, runTouches, runFalls}
-use Rattle.model.specs.Uses.{Evicting, neither, touches, evicts, roomEffect, presentEffect, insertEffect, hitEffect, lookupEffect, peekEffect, resizeEffect, evictEffect, ruleEffect, unlessRefused, effectOf, touchesOf, Touched, Enters, stays, enters, NoEvictions, EvictionsOf, Fell, Counts}
+use Rattle.model.specs.Uses.{Evicting, neither, touches, evicts, roomEffect, presentEffect, insertEffect, hitEffectWith, hitEffect, lookupEffect, peekEffect, resizeEffect, evictEffect, ruleEffect, unlessRefused, effectOf, touchesOf, Touched, Enters, stays, enters, NoEvictions, EvictionsOf, Fell, Counts}
 use Rattle.model.proofs.ByKey.{Stands, find-stands, stands-own, stands-change, stands-changed}
 use Rattle.model.proofs.Evictions.{sweeping-evicts, evict-to-evicts, evicts-total}
 use Rattle.model.proofs.KeptCases.{either, deleted-or-refused}
@@ -83,7 +83,7 @@ release-plain : (key : ℕ) (found : Option Entry) (c : Cache) → Plain (releas
 release-plain key none c = answered
 release-plain key (some e) c = go (oneHolderLess (e .page .state))
   where
-    go : (r : Recount) → Plain (elim r [ Now state ↦ answer 0 0 (rewrite key state c) | AtLimit ↦ answer 20 0 c ])
+    go : (r : Recount) → Plain (releaseWith key r c)
     go (Now state) = answered
     go AtLimit = answered
 
@@ -118,27 +118,15 @@ touched-counts {e = e} s o e′ one row key uses idle = record {
 -- one holder more, and then a touch or none
 hit-counts : (key : ℕ) (asked : Bool) (c : Cache) (e : Entry) → Stands key (c .row) e
     → Counts (hitEffect asked (e .page)) (c .row) (hit key asked (e .page) c)
-hit-counts key asked c e s = go (oneHolderMore (e .page .state))
+hit-counts key asked c e s = go (oneHolderMore (e .page .state)) asked
   where
-    told : (b : Bool) (state : PageRecord) → Counts (elim b [ true ↦ touches (e .page) | false ↦ neither ]) (c .row) (elim b [
-      | true ↦ touching (answer 0 (e .page .handle) (touch key (rewrite key state c)))
-      | false ↦ answer 0 (e .page .handle) (rewrite key state c)
-    ])
-    told true state =
-        touched-counts s (touching (answer 0 (e .page .handle) (touch key (rewrite key state c)))) (touched (rewritten state e)) refl
+    go : (r : Recount) (b : Bool) → Counts (hitEffectWith r b (e .page)) (c .row) (hitWith key r b (e .page) c)
+    go (Now state) true =
+        touched-counts s (hitWith key (Now state) true (e .page) c) (touched (rewritten state e)) refl
         (stands-change key _ (rewritten state e) (stands-changed key (c .row) e s (rewritten state) (s .named)) touched) refl refl
         (record { passed = refl; falls = refl })
-    told false state = answered (c .row)
-
-    go : (r : Recount) → Counts (elim r [ Now state ↦ elim asked [ true ↦ touches (e .page) | false ↦ neither ] | AtLimit ↦ neither ]) (c .row) (elim r [
-      | Now state ↦ elim asked [
-        | true ↦ touching (answer 0 (e .page .handle) (touch key (rewrite key state c)))
-        | false ↦ answer 0 (e .page .handle) (rewrite key state c)
-      ]
-      | AtLimit ↦ answer 20 0 c
-    ])
-    go (Now state) = told asked state
-    go AtLimit = answered (c .row)
+    go (Now state) false = answered (c .row)
+    go AtLimit b = answered (c .row)
 
 lookup-counts : (key : ℕ) (found : Option Entry) (c : Cache) → find key (c .row) ≡ found
     → Counts (lookupEffect found) (c .row) (lookupFound key found c)

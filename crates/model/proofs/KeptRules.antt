@@ -16,10 +16,10 @@ use Rattle.page.specs.declared.record.PageRecord.{PageRecord}
 use Rattle.page.specs.declared.record.Recount.{Recount}
 use Rattle.page.specs.declared.record.Recount.the-variants.{Now, AtLimit}
 use Rattle.model.specs.Row.{Page, Entry, Row, find, byKey, those}
-use Rattle.model.specs.Cache.{Cache, heldIn, withCapacity, withSpill, fresh, estimateMax, up, down, leave, touch, rewritten, rewrite}
-use Rattle.model.specs.Call.{Call, create, insert, lookup, peek, release, delete, resize, truncate, remove-frames, clear, notify-dirty, notify-spilled, write, spill, evict-one, switch, Outcome, answer, touching}
+use Rattle.model.specs.Cache.{Cache, heldIn, withCapacity, withSpill, fresh, estimateMax, up, down, leave, rewritten, rewrite}
+use Rattle.model.specs.Call.{Call, create, insert, lookup, peek, release, delete, resize, truncate, remove-frames, clear, notify-dirty, notify-spilled, write, spill, evict-one, switch, Outcome, answer}
 use Rattle.model.specs.Rooms.{Room, sweepOf, evicted, enough, sweeping, evictTo, following}
-use Rattle.model.specs.Rules.{deleting, hit, lookupFound, peekFound, releaseFound, deleteFound, onResize, deleteEach, onClear, emptied, clearUnless, notified, writeFound, evictFrom}
+use Rattle.model.specs.Rules.{deleting, hitWith, hit, lookupFound, peekFound, releaseWith, releaseFound, deleteFound, onResize, deleteEach, onClear, emptied, clearUnless, notified, writeFound, evictFrom}
 use Rattle.model.specs.Spill.{onSpill, selected, selection, needsSpill, pageSpillable}
 use Rattle.model.specs.Step.{act}
 use Rattle.model.specs.Limits.{RecordInRange, CacheInvariant, ArgumentsInRange}
@@ -58,21 +58,16 @@ module _ {given : Type 0} (c : Cache) (k : CacheInvariant c) where
 
   -- the record is written if there is one, and after it a hit may touch the page
   hit-leaves : (key : ℕ) (asked : Bool) (e : Entry) → Stands key (c .row) e → Leaves c (heldIn c) given (hit key asked (e .page) c)
-  hit-leaves key asked e s = go (oneHolderMore (e .page .state)) (more-writable (stands-good c k key e s))
+  hit-leaves key asked e s = go (oneHolderMore (e .page .state)) asked (more-writable (stands-good c k key e s))
     where
-      go : (r : Recount) → Writable r → Leaves c (heldIn c) given (elim r [
-        | Now state ↦ elim asked [
-          | true ↦ touching (answer 0 (e .page .handle) (touch key (rewrite key state c)))
-          | false ↦ answer 0 (e .page .handle) (rewrite key state c)
-        ]
-        | AtLimit ↦ answer 20 0 c
-      ])
-      go (Now state) may =
-          let written : CacheInvariant (rewrite key state c) = rewrite-kept c k key e s state (may .1) (may .0) in
-          either (Leaves c (heldIn c) given) asked
-          (λ _. leaves-done c _ (inl refl) (omega arith) (λ _. touch-kept (rewrite key state c) written key (rewritten state e) (stands-changed key (c .row) e s (rewritten state) (s .named))))
-          (λ _. leaves-done c _ (inl refl) (omega arith) (λ _. written))
-      go AtLimit may = leaves-same c 20 0 k
+      written : (state : PageRecord) → Writable (Now state) → CacheInvariant (rewrite key state c)
+      written state may = rewrite-kept c k key e s state (may .1) (may .0)
+
+      go : (r : Recount) (b : Bool) → Writable r → Leaves c (heldIn c) given (hitWith key r b (e .page) c)
+      go (Now state) true may = leaves-done c _ (inl refl) (omega arith)
+          (λ _. touch-kept (rewrite key state c) (written state may) key (rewritten state e) (stands-changed key (c .row) e s (rewritten state) (s .named)))
+      go (Now state) false may = leaves-done c _ (inl refl) (omega arith) (λ _. written state may)
+      go AtLimit b may = leaves-same c 20 0 k
 
   lookup-leaves : (key : ℕ) (v : Option Entry) → find key (c .row) ≡ v → Leaves c (heldIn c) given (lookupFound key v c)
   lookup-leaves key none q = leaves-same c 4 0 k
@@ -93,8 +88,7 @@ module _ {given : Type 0} (c : Cache) (k : CacheInvariant c) where
       s : Stands key (c .row) e
       s = find-stands key (c .row) e q
 
-      go : (r : Recount) → Writable r
-          → Leaves c (heldIn c) given (elim r [ Now state ↦ answer 0 0 (rewrite key state c) | AtLimit ↦ answer 20 0 c ])
+      go : (r : Recount) → Writable r → Leaves c (heldIn c) given (releaseWith key r c)
       go (Now state) may = leaves-done c _ (inl refl) (omega arith) (λ _. rewrite-kept c k key e s state (may .1) (may .0))
       go AtLimit may = leaves-same c 20 0 k
 

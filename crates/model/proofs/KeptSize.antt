@@ -12,10 +12,10 @@ use Rattle.page.specs.declared.record.PageRecord.{PageRecord}
 use Rattle.page.specs.declared.record.Recount.{Recount}
 use Rattle.page.specs.declared.record.Recount.the-variants.{Now, AtLimit}
 use Rattle.model.specs.Row.{Page, Entry, Row, find, byKey, those}
-use Rattle.model.specs.Cache.{Cache, heldIn, leave, touch, rewrite}
-use Rattle.model.specs.Call.{Call, create, insert, lookup, peek, release, delete, resize, truncate, remove-frames, clear, notify-dirty, notify-spilled, write, spill, evict-one, switch, Insertion, plain, forced, upsert, Outcome, answer, touching}
+use Rattle.model.specs.Cache.{Cache, heldIn, leave}
+use Rattle.model.specs.Call.{Call, create, insert, lookup, peek, release, delete, resize, truncate, remove-frames, clear, notify-dirty, notify-spilled, write, spill, evict-one, switch, Insertion, plain, forced, upsert, Outcome, answer}
 use Rattle.model.specs.Rooms.{Room, sweepOf, evicted, enough, sweeping, evictions, evictTo, makeRoom}
-use Rattle.model.specs.Rules.{deleting, onInsert, insertFound, admit, onFull, present, keyExists, hit, lookupFound, peekFound, releaseFound, deleteFound, onResize, deleteEach, onClear, clearUnless, notified, writeFound, evictFrom}
+use Rattle.model.specs.Rules.{deleting, onInsert, insertFound, admit, onFull, present, keyExists, hitWith, lookupFound, peekFound, releaseWith, releaseFound, deleteFound, onResize, deleteEach, onClear, clearUnless, notified, writeFound, evictFrom}
 use Rattle.model.specs.Spill.{onSpill, selected, selection, needsSpill}
 use Rattle.model.specs.Step.{act, tested, step}
 use Rattle.model.specs.Tests.{refusal}
@@ -71,33 +71,25 @@ module _ (key handle : ℕ) (state : PageRecord) where
       (λ _. stale-size how (e .page) c) (λ _. present-size how (e .page) c)
 
 -- ── the other rules ──────────────────────────────────────────────────────────
-hit-size : (key : ℕ) (asked : Bool) (p : Page) (c : Cache) → SameSize c (hit key asked p c)
-hit-size key asked p c = go (oneHolderMore (p .state))
-  where
-    go : (r : Recount) → SameSize c (elim r [
-      | Now state ↦ elim asked [
-        | true ↦ touching (answer 0 (p .handle) (touch key (rewrite key state c)))
-        | false ↦ answer 0 (p .handle) (rewrite key state c)
-      ]
-      | AtLimit ↦ answer 20 0 c
-    ])
-    go (Now state) = either (SameSize c) asked (λ _. refl) (λ _. refl)
-    go AtLimit = refl
+hit-size : (key : ℕ) (r : Recount) (asked : Bool) (p : Page) (c : Cache) → SameSize c (hitWith key r asked p c)
+hit-size key (Now state) true p c = refl
+hit-size key (Now state) false p c = refl
+hit-size key AtLimit asked p c = refl
 
 lookup-size : (key : ℕ) (v : Option Entry) (c : Cache) → SameSize c (lookupFound key v c)
 lookup-size key none c = refl
 lookup-size key (some e) c = either (SameSize c) (stale (e .page .state))
-    (λ _. deleted-or-refused (SameSize c) (e .page) (answer 4 0) c refl (λ _ _ _. refl)) (λ _. hit-size key true (e .page) c)
+    (λ _. deleted-or-refused (SameSize c) (e .page) (answer 4 0) c refl (λ _ _ _. refl)) (λ _. hit-size key (oneHolderMore (e .page .state)) true (e .page) c)
 
 peek-size : (key : ℕ) (asked : Bool) (v : Option Entry) (c : Cache) → SameSize c (peekFound key asked v c)
 peek-size key asked none c = refl
-peek-size key asked (some e) c = hit-size key asked (e .page) c
+peek-size key asked (some e) c = hit-size key (oneHolderMore (e .page .state)) asked (e .page) c
 
 release-size : (key : ℕ) (v : Option Entry) (c : Cache) → SameSize c (releaseFound key v c)
 release-size key none c = refl
 release-size key (some e) c = go (oneHolderLess (e .page .state))
   where
-    go : (r : Recount) → SameSize c (elim r [ Now state ↦ answer 0 0 (rewrite key state c) | AtLimit ↦ answer 20 0 c ])
+    go : (r : Recount) → SameSize c (releaseWith key r c)
     go (Now state) = refl
     go AtLimit = refl
 

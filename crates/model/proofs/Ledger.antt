@@ -15,11 +15,11 @@ use Rattle.page.specs.declared.record.Recount.{Recount}
 use Rattle.page.specs.declared.record.Recount.the-variants.{Now, AtLimit}
 use Rattle.model.specs.Row.{Page, Entry, Row, find, change, byKey, those, total}
 use Rattle.model.specs.Sweep.{touched}
-use Rattle.model.specs.Cache.{Cache, heldIn, fresh, pageMayGo, up, down, leave, newPage, touch, rewritten, rewrite, replacedEntry}
+use Rattle.model.specs.Cache.{Cache, heldIn, fresh, pageMayGo, up, down, leave, newPage, rewritten, replacedEntry}
 use Rattle.model.specs.Call.{Insertion, plain, forced, upsert, Call, create, insert, lookup, peek, release, delete, resize, truncate, remove-frames, clear, notify-dirty, notify-spilled, write, spill, evict-one, switch, Outcome, answer, listing, touching}
 use Rattle.model.specs.Tests.{refusal}
 use Rattle.model.specs.Rooms.{Room, sweepOf, evicted, enough, sweeping, evictions, evictTo, makeRoom, following}
-use Rattle.model.specs.Rules.{deleting, deleteFound, place, onFull, admit, keyExists, present, insertFound, onInsert, hit, lookupFound, peekFound, releaseFound, onResize, deleteEach, newerThan, emptied, clearUnless, onClear, notified, writeFound, evictFrom}
+use Rattle.model.specs.Rules.{deleting, deleteFound, place, onFull, admit, keyExists, present, insertFound, onInsert, hitWith, hit, lookupFound, peekFound, releaseWith, releaseFound, onResize, deleteEach, newerThan, emptied, clearUnless, onClear, notified, writeFound, evictFrom}
 use Rattle.model.specs.Spill.{needsSpill, selection, selected, onSpill}
 use Rattle.model.specs.Step.{act, tested, step, run, runTouches, runFalls}
 use Rattle.model.proofs.Totals.{sweep-total, total-change, total-without, total-enter}
@@ -108,19 +108,14 @@ rewrite-adds : (key : ℕ) (state : PageRecord) (row : Row) → total (change ke
 rewrite-adds key state row = omega (arith, total-change 0 (rewritten state) (λ e. omega arith) key row)
 
 hit-balanced : (key : ℕ) (asked : Bool) (p : Page) (c : Cache) → Balanced (c .row) (hit key asked p c)
-hit-balanced key asked p c = go (oneHolderMore (p .state))
+hit-balanced key asked p c = go (oneHolderMore (p .state)) asked
   where
-    go : (r : Recount) → Balanced (c .row) (elim r [
-      | Now state ↦ elim asked [
-        | true ↦ touching (answer 0 (p .handle) (touch key (rewrite key state c)))
-        | false ↦ answer 0 (p .handle) (rewrite key state c)
-      ]
-      | AtLimit ↦ answer 20 0 c
-    ])
-    go (Now state) =
+    go : (r : Recount) (b : Bool) → Balanced (c .row) (hitWith key r b p c)
+    go (Now state) true =
         let held : Row = change key (rewritten state) (c .row) in
-        both-ways asked (touch-pays (omega (arith, touch-adds key held, rewrite-adds key state (c .row)))) (fewer-uses (rewrite-adds key state (c .row)))
-    go AtLimit = still
+        touch-pays (omega (arith, touch-adds key held, rewrite-adds key state (c .row)))
+    go (Now state) false = fewer-uses (rewrite-adds key state (c .row))
+    go AtLimit b = still
 
 -- ── rules 5, 6 and 7: insertion ──────────────────────────────────────────────
 module _ (key handle : ℕ) (state : PageRecord) where
@@ -169,7 +164,7 @@ release-balanced : (key : ℕ) (found : Option Entry) (c : Cache) → Balanced (
 release-balanced key none c = still
 release-balanced key (some e) c = go (oneHolderLess (e .page .state))
   where
-    go : (r : Recount) → Balanced (c .row) (elim r [ Now state ↦ answer 0 0 (rewrite key state c) | AtLimit ↦ answer 20 0 c ])
+    go : (r : Recount) → Balanced (c .row) (releaseWith key r c)
     go (Now state) = fewer-uses (rewrite-adds key state (c .row))
     go AtLimit = still
 

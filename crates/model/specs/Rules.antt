@@ -8,6 +8,7 @@ use Rattle.page.specs.Cache.{pageOne}
 use Rattle.page.specs.Record.{dirty, tagged, stale, deletable, oneHolderMore, oneHolderLess}
 use Rattle.page.specs.declared.record.Deletable.the-variants.{Yes, Locked, Dirty, Pinned}
 use Rattle.page.specs.declared.record.PageRecord.{PageRecord}
+use Rattle.page.specs.declared.record.Recount.{Recount}
 use Rattle.page.specs.declared.record.Recount.the-variants.{Now, AtLimit}
 use Rattle.model.specs.Row.{Page, Entry, Row, find, byKey, those}
 use Rattle.model.specs.Cache.{Cache, heldIn, withRow, withEstimate, withCapacity, up, down, newPage, enter, leave, touch, rewrite, replace}
@@ -75,15 +76,14 @@ module _ (key handle : ℕ) (state : PageRecord) where
   onInsert how c = insertFound how (find key (c .row)) c
 
 -- ── rule 9: lookup, peek and release ─────────────────────────────────────────
--- a hit answers the handle and adds one holder, with a touch or without; if the record can't count one more, nothing is changed
+-- the page has one holder more, with a touch or without; if its record can't count one more, nothing is changed
+abbrev pub hitWith : ℕ → Recount → Bool → Page → Cache → Outcome
+hitWith key (Now state) true p c = touching (answer 0 (p .handle) (touch key (rewrite key state c)))
+hitWith key (Now state) false p c = answer 0 (p .handle) (rewrite key state c)
+hitWith key AtLimit touches p c = answer 20 0 c
+
 abbrev pub hit : ℕ → Bool → Page → Cache → Outcome
-hit key touches p c = elim (oneHolderMore (p .state)) [
-  | Now state ↦ elim touches [
-    | true ↦ touching (answer 0 (p .handle) (touch key (rewrite key state c)))
-    | false ↦ answer 0 (p .handle) (rewrite key state c)
-  ]
-  | AtLimit ↦ answer 20 0 c
-]
+hit key touches p c = hitWith key (oneHolderMore (p .state)) touches p c
 
 -- a page neither loaded nor locked is deleted, and the answer is 4; any other is a hit, with a touch
 abbrev pub lookupFound : ℕ → Option Entry → Cache → Outcome
@@ -101,10 +101,14 @@ peekFound key asked (some e) c = hit key asked (e .page) c
 abbrev pub onPeek : ℕ → Bool → Cache → Outcome
 onPeek key asked c = peekFound key asked (find key (c .row)) c
 
--- takes one holder away, whatever else the record says; if there is none, nothing is changed
+-- the page has one holder less, whatever else its record says; if there is none, nothing is changed
+abbrev pub releaseWith : ℕ → Recount → Cache → Outcome
+releaseWith key (Now state) c = answer 0 0 (rewrite key state c)
+releaseWith key AtLimit c = answer 20 0 c
+
 abbrev pub releaseFound : ℕ → Option Entry → Cache → Outcome
 releaseFound key none c = answer 4 0 c
-releaseFound key (some e) c = elim (oneHolderLess (e .page .state)) [ Now state ↦ answer 0 0 (rewrite key state c) | AtLimit ↦ answer 20 0 c ]
+releaseFound key (some e) c = releaseWith key (oneHolderLess (e .page .state)) c
 
 abbrev pub onRelease : ℕ → Cache → Outcome
 onRelease key c = releaseFound key (find key (c .row)) c

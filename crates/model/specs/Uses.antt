@@ -10,6 +10,7 @@ use lib.ListN.{length}
 use Rattle.page.specs.Entry.{raised}
 use Rattle.page.specs.Record.{stale, deletable, oneHolderMore}
 use Rattle.page.specs.declared.record.Deletable.the-variants.{Yes, Locked, Dirty, Pinned}
+use Rattle.page.specs.declared.record.Recount.{Recount}
 use Rattle.page.specs.declared.record.Recount.the-variants.{Now, AtLimit}
 use Rattle.model.specs.Row.{Page, Entry, Row, find, total}
 use Rattle.model.specs.Cache.{Cache, leave, enterRow}
@@ -63,9 +64,14 @@ insertEffect how handle (some e) c = elim (stale (e .page .state)) [
   | false ↦ presentEffect how handle (e .page)
 ]
 
--- rule 9. A hit that is to touch its page does so, unless the page can't have one holder more
+-- rule 9. A hit touches its page if it is to, unless the page can't have one holder more
+abbrev pub hitEffectWith : Recount → Bool → Page → Effect
+hitEffectWith (Now state) true p = touches p
+hitEffectWith (Now state) false p = neither
+hitEffectWith AtLimit asked p = neither
+
 abbrev pub hitEffect : Bool → Page → Effect
-hitEffect asked p = elim (oneHolderMore (p .state)) [ Now state ↦ elim asked [ true ↦ touches p | false ↦ neither ] | AtLimit ↦ neither ]
+hitEffect asked p = hitEffectWith (oneHolderMore (p .state)) asked p
 
 -- a lookup is to touch a page that is loaded or locked, and `peek` any page if asked
 abbrev pub lookupEffect : Option Entry → Effect
