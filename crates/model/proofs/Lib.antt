@@ -23,4 +23,5 @@ pub mod KeptRules
 pub mod Kept
 pub mod Evictions
 pub mod Examples
+pub mod Holding
 pub mod Exact
