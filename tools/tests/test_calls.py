@@ -23,6 +23,9 @@ CODE = {answer.name: answer.number for answer in ANSWERS}
 
 # ── what the places have to say ──────────────────────────────────────────────
 
+# methods of the Rust crate have the original's names; it has none for a release, and there the operation's is enough
+METHOD = {'release_page': 'release'}
+
 # dispatch calls what stands on sound memory, and that is where eviction::evict_one is the single eviction
 BELOW_THE_PUBLIC_CALL = {'evict_one': 'evict'}
 
@@ -192,10 +195,10 @@ PLACES = {
         (f'COUNT: usize = {len(ANSWERS)}', f'COUNT: usize = {len(ANSWERS) - 1}'),
     ]),
     'operations of the Rust crate': (
-        CRATE, crate_operations, [(operation.camel(), operation.number, operation.function) for operation in OPERATIONS], [
+        CRATE, crate_operations, [(operation.camel(), operation.number, METHOD.get(operation.function, operation.function)) for operation in OPERATIONS], [
             ('Get = 4,', 'Get = 14,'),
             ('Release = 17,', 'Release = 7,'),
-            ('::release_page`]', '::release`]'),
+            ('::release`]', '::release_page`]'),
             ('RemoveFrames = 9,', 'FrameRemoval = 9,'),
             ('::evict_one`]', '::delete`]'),
         ]),

@@ -9,11 +9,10 @@ use native.Mathlib.Omega.{arith}
 use lib.Dec.{eqb, ltb}
 use borrow.Author.Tests.{not-false, eqb-true, lt-ltb}
 use Rattle.page.specs.Cache.{pageOne, mayGo, spillable}
-use Rattle.page.specs.Record.{locked, dirty, spilled, pinned, held, stale, cleanOrSpilled, holdersMax, withHolders, oneHolderLess}
+use Rattle.page.specs.Record.{locked, dirty, spilled, pinned, held, stale, cleanOrSpilled, holdersMax, withHolders}
 use Rattle.page.specs.declared.record.PageRecord.{PageRecord}
-use Rattle.page.specs.declared.record.Recount.{Recount}
 use Rattle.page.specs.declared.record.Recount.the-variants.{Now, AtLimit}
-use Rattle.model.specs.Row.{Page, Entry, Row, find, change}
+use Rattle.model.specs.Row.{Entry, Row, find, change}
 use Rattle.model.specs.Sweep.{touched}
 use Rattle.model.specs.Cache.{Cache, withRow, rewritten, rewrite}
 use Rattle.model.specs.Call.{Outcome, lookup, peek, release, answer}

@@ -105,7 +105,7 @@ pub enum CacheError {
     /// A spill is needed, and no page was selected. [`crate::PageCache::check_spill`] answers [`SpillResult::CacheFull`] in its
     /// place.
     NoneSelected,
-    /// The page has 65,535 holders, and a lookup would add one; or it has none, and [`crate::PageCache::release_page`] would take one
+    /// The page has 65,535 holders, and a lookup would add one; or it has none, and [`crate::PageCache::release`] would take one
     /// away.
     HolderLimit,
 }

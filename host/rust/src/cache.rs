@@ -15,7 +15,7 @@ use std::fmt;
 /// let mut cache = PageCache::new(256, 200)?;
 /// cache.insert(PageCacheKey(10), PageHandle(100), Page::loaded())?;
 /// assert_eq!(cache.get(PageCacheKey(10))?, Some(PageHandle(100)));
-/// cache.release_page(PageCacheKey(10))?;
+/// cache.release(PageCacheKey(10))?;
 /// # Ok::<(), page_cache::CacheError>(())
 /// ```
 pub struct PageCache<'a> {
@@ -166,7 +166,7 @@ impl<'a> PageCache<'a> {
 
     /// Looks a page up, touches it and adds a holder. A stale page is deleted, and is not found.
     ///
-    /// A page that is found stays in the cache until [`PageCache::release_page`] has taken the holder away: it is neither evicted nor
+    /// A page that is found stays in the cache until [`PageCache::release`] has taken the holder away: it is neither evicted nor
     /// selected for a spill. Only a call that deletes pages, which doesn't look at holders, can still remove it.
     pub fn get(&mut self, key: PageCacheKey) -> Result<Option<PageHandle>, CacheError> {
         self.found(Record::new(Operation::Get).with_key(key))
@@ -191,14 +191,14 @@ impl<'a> PageCache<'a> {
     /// cache.insert(PageCacheKey(5), PageHandle(50), Page::loaded())?;
     /// assert_eq!(cache.get(PageCacheKey(5))?, Some(PageHandle(50)));
     /// assert_eq!(cache.insert(PageCacheKey(6), PageHandle(60), Page::loaded()), Err(CacheError::Full));
-    /// cache.release_page(PageCacheKey(5))?;
+    /// cache.release(PageCacheKey(5))?;
     /// cache.insert(PageCacheKey(6), PageHandle(60), Page::loaded())?;
     /// assert_eq!(cache.listed(), [PageHandle(50)]);
-    /// assert_eq!(cache.release_page(PageCacheKey(5)), Err(CacheError::Absent));
-    /// assert_eq!(cache.release_page(PageCacheKey(6)), Err(CacheError::HolderLimit));
+    /// assert_eq!(cache.release(PageCacheKey(5)), Err(CacheError::Absent));
+    /// assert_eq!(cache.release(PageCacheKey(6)), Err(CacheError::HolderLimit));
     /// # Ok::<(), CacheError>(())
     /// ```
-    pub fn release_page(&mut self, key: PageCacheKey) -> Result<(), CacheError> {
+    pub fn release(&mut self, key: PageCacheKey) -> Result<(), CacheError> {
         self.done(Record::new(Operation::Release).with_key(key))
     }
 
@@ -282,7 +282,7 @@ impl<'a> PageCache<'a> {
     ///     cache.write_record(key, Page { flags: Page::LOADED | Page::DIRTY, ..listed.page })?;
     /// }
     /// # assert_eq!(cache.list()?[0].page, Page { holders: 1, ..Page::with(Page::LOADED | Page::DIRTY) });
-    /// cache.release_page(key)?;
+    /// cache.release(key)?;
     /// # Ok::<(), CacheError>(())
     /// ```
     pub fn write_record(&mut self, key: PageCacheKey, page: Page) -> Result<bool, CacheError> {

@@ -68,7 +68,7 @@ numbered! {
         EvictOne = 15,
         /// [`crate::PageCache::set_spill_enabled`]
         SetSpill = 16,
-        /// [`crate::PageCache::release_page`]
+        /// [`crate::PageCache::release`]
         Release = 17,
     }
 }

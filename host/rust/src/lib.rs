@@ -6,7 +6,7 @@
 //! [`PageCache::listed`] the handles that left the cache.
 //!
 //! A page that was looked up is held, and stays in the cache, until it is released. In the original a clone of the page does that, and
-//! lets go when it is dropped; here nothing is dropped, and [`PageCache::release_page`] has to be called.
+//! lets go when it is dropped; here nothing is dropped, and [`PageCache::release`] has to be called.
 //!
 //! One thread at a time: nothing here locks. A cache that threads share needs a lock around it, a `Mutex<PageCache>`.
 //!
@@ -25,7 +25,7 @@
 //! assert_eq!(cache.get(PageCacheKey(20))?, None);
 //!
 //! // the page of key 10 is no longer read: from now on it may go
-//! cache.release_page(PageCacheKey(10))?;
+//! cache.release(PageCacheKey(10))?;
 //! # Ok::<(), page_cache::CacheError>(())
 //! ```
 

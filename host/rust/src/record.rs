@@ -34,7 +34,7 @@ pub struct Page {
     /// How often the page is pinned.
     pub pins: u16,
     /// How many hold the page besides the cache. A page that has some is never evicted, nor selected for a spill.
-    /// [`crate::PageCache::get`] and [`crate::PageCache::peek`] add one, [`crate::PageCache::release_page`] takes one away, and a record
+    /// [`crate::PageCache::get`] and [`crate::PageCache::peek`] add one, [`crate::PageCache::release`] takes one away, and a record
     /// that is inserted or written sets them.
     pub holders: u16,
     /// Its overflow cells.

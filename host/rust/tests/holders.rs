@@ -1,4 +1,4 @@
-//! Who holds a page: lookups add a holder, `release_page` takes one away, and a page that has some is not evicted.
+//! Who holds a page: lookups add a holder, `release` takes one away, and a page that has some is not evicted.
 use page_cache::{sys, CacheError, Code, ListedPage, Operation, Page, PageCache, PageCacheKey, PageHandle, Record, SpillResult};
 
 const KEY: PageCacheKey = PageCacheKey::new(5);
@@ -48,12 +48,12 @@ fn lookups_add_holders_and_releases_take_them_away() {
         assert_eq!(usize::from(holders(&cache)), added + 1);
     }
     for left in (0..LOOKUPS.len()).rev() {
-        assert_eq!(cache.release_page(KEY), Ok(()));
+        assert_eq!(cache.release(KEY), Ok(()));
         assert_eq!(usize::from(holders(&cache)), left);
     }
     // a touch each of `get` and of the peek that was asked for one, and none of a release
     assert_eq!(listed(&cache, KEY).uses, 2);
-    assert_eq!(cache.release_page(KEY), Err(CacheError::HolderLimit));
+    assert_eq!(cache.release(KEY), Err(CacheError::HolderLimit));
 }
 
 #[test]
@@ -65,7 +65,7 @@ fn a_page_that_is_held_keeps_its_place_and_its_uses() {
         assert_eq!(cache.evict_one(), Err(CacheError::Full));
         assert_eq!(cache.insert(OTHER, PageHandle(60), Page::loaded()), Err(CacheError::Full));
         assert_eq!(listed(&cache, KEY), page, "no use was taken");
-        cache.release_page(KEY).unwrap();
+        cache.release(KEY).unwrap();
         cache.insert(OTHER, PageHandle(60), Page::loaded()).unwrap();
         assert_eq!((cache.last().passed, cache.listed()), (u64::from(page.uses), &[HANDLE][..]));
     }
@@ -79,7 +79,7 @@ fn a_page_that_is_held_is_not_selected_for_a_spill() {
     }
     cache.get(KEY).unwrap();
     assert_eq!(cache.check_spill(2), Ok(SpillResult::PagesToSpill(vec![PageHandle(60)])));
-    cache.release_page(KEY).unwrap();
+    cache.release(KEY).unwrap();
     assert_eq!(cache.check_spill(2), Ok(SpillResult::PagesToSpill(vec![HANDLE, PageHandle(60)])));
 }
 
@@ -92,9 +92,9 @@ fn as_many_holders_as_there_can_be() {
     }
     assert_eq!((holders(&cache), cache.get(KEY)), (MOST, Err(CacheError::HolderLimit)));
     for _ in 0..MOST {
-        assert_eq!(cache.release_page(KEY), Ok(()));
+        assert_eq!(cache.release(KEY), Ok(()));
     }
-    assert_eq!((holders(&cache), cache.release_page(KEY)), (0, Err(CacheError::HolderLimit)));
+    assert_eq!((holders(&cache), cache.release(KEY)), (0, Err(CacheError::HolderLimit)));
 }
 
 #[test]
@@ -112,7 +112,7 @@ fn a_refused_holder_alters_nothing() {
     }
     let mut cache = holding(held_by(0));
     let before = words(&cache);
-    assert_eq!(cache.release_page(KEY), Err(CacheError::HolderLimit));
+    assert_eq!(cache.release(KEY), Err(CacheError::HolderLimit));
     assert_eq!(words(&cache), before);
 }
 
@@ -122,7 +122,7 @@ fn a_stale_page_is_deleted_by_get_whatever_its_holders() {
     for holders in [0, 1, MOST] {
         let mut cache = holding(Page { holders, ..Page::default() });
         assert_eq!((cache.get(KEY), cache.listed()), (Ok(None), &[HANDLE][..]));
-        assert_eq!((cache.len(), cache.release_page(KEY)), (0, Err(CacheError::Absent)));
+        assert_eq!((cache.len(), cache.release(KEY)), (0, Err(CacheError::Absent)));
 
         let mut cache = holding(Page { holders, pins: 1, ..Page::default() });
         let before = words(&cache);
@@ -136,8 +136,8 @@ fn a_stale_page_is_found_by_peek_and_held() {
     for touch in [false, true] {
         let mut cache = holding(Page::default());
         assert_eq!((cache.peek(KEY, touch), holders(&cache)), (Ok(Some(HANDLE)), 1));
-        assert_eq!(cache.release_page(KEY), Ok(()));
-        assert_eq!(cache.release_page(KEY), Err(CacheError::HolderLimit));
+        assert_eq!(cache.release(KEY), Ok(()));
+        assert_eq!(cache.release(KEY), Err(CacheError::HolderLimit));
 
         let mut cache = holding(Page { holders: MOST, ..Page::default() });
         assert_eq!(cache.peek(KEY, touch), Err(CacheError::HolderLimit));
@@ -153,7 +153,7 @@ fn a_release_of_any_page() {
         cache.insert(OTHER, PageHandle(60), Page::loaded()).unwrap();
         cache.insert(key, HANDLE, Page { flags, pins: 2, holders: 3, cells: 4, frame: 7 }).unwrap();
         let (mut wanted, head) = (cache.list().unwrap(), cache.memory().head());
-        assert_eq!(cache.release_page(key), Ok(()));
+        assert_eq!(cache.release(key), Ok(()));
         assert_eq!((cache.last().value, cache.last().passed, cache.listed()), (0, 0, &[][..]));
         wanted[1].page.holders = 2;
         assert_eq!((cache.list().unwrap(), cache.memory().head()), (wanted, head), "{key:?}, flags {flags}");
@@ -166,16 +166,16 @@ fn a_release_goes_by_key() {
     let mut cache = holding(Page::loaded());
     cache.get(KEY).unwrap();
     cache.force_upsert_page(KEY, PageHandle(51), Page::loaded()).unwrap();
-    assert_eq!(cache.release_page(KEY), Err(CacheError::HolderLimit));
+    assert_eq!(cache.release(KEY), Err(CacheError::HolderLimit));
     cache.force_upsert_page(KEY, PageHandle(52), held_by(2)).unwrap();
-    assert_eq!((cache.release_page(KEY), holders(&cache)), (Ok(()), 1));
+    assert_eq!((cache.release(KEY), holders(&cache)), (Ok(()), 1));
 
     let mut cache = holding(Page::loaded());
     cache.get(KEY).unwrap();
     cache.delete(KEY).unwrap();
-    assert_eq!(cache.release_page(KEY), Err(CacheError::Absent));
+    assert_eq!(cache.release(KEY), Err(CacheError::Absent));
     cache.insert(KEY, HANDLE, held_by(1)).unwrap();
-    assert_eq!((cache.release_page(KEY), holders(&cache)), (Ok(()), 0));
+    assert_eq!((cache.release(KEY), holders(&cache)), (Ok(()), 0));
 }
 
 #[test]
@@ -194,9 +194,9 @@ fn a_written_record_sets_the_holders() {
     let mut cache = holding(Page::loaded());
     cache.get(KEY).unwrap();
     assert_eq!(cache.write_record(KEY, Page::loaded()), Ok(true));
-    assert_eq!(cache.release_page(KEY), Err(CacheError::HolderLimit));
+    assert_eq!(cache.release(KEY), Err(CacheError::HolderLimit));
     assert_eq!(cache.write_record(KEY, held_by(2)), Ok(true));
-    assert_eq!((cache.release_page(KEY), holders(&cache)), (Ok(()), 1));
+    assert_eq!((cache.release(KEY), holders(&cache)), (Ok(()), 1));
 }
 
 /// A list is lent to `get`, which may delete; `peek` and a release don't look at it.

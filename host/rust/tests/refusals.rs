@@ -79,8 +79,8 @@ fn errors_that_the_original_does_not_have() {
         assert_eq!(cache.apply(bytes).error(), Some(CacheError::BadReplay));
     }
     assert_eq!(cache.apply(&Record::new(Operation::Get).with_key(key(9)).bytes()).error(), Some(CacheError::Absent));
-    assert_eq!(cache.release_page(key(9)), Err(CacheError::Absent));
-    assert_eq!(cache.release_page(key(5)), Err(CacheError::HolderLimit));
+    assert_eq!(cache.release(key(9)), Err(CacheError::Absent));
+    assert_eq!(cache.release(key(5)), Err(CacheError::HolderLimit));
     cache.clear(true).unwrap();
     assert_eq!(cache.evict_one(), Err(CacheError::Empty));
 
@@ -92,7 +92,7 @@ fn errors_that_the_original_does_not_have() {
 
     let mut unsound = PageCache::over(Memory::owned(2));
     assert_eq!(unsound.evict_one(), Err(CacheError::NotSound));
-    assert_eq!(unsound.release_page(key(5)), Err(CacheError::NotSound));
+    assert_eq!(unsound.release(key(5)), Err(CacheError::NotSound));
     assert_eq!(unsound.list(), Err(CacheError::NotSound));
     assert_eq!(unsound.contains_key(key(5)), Err(CacheError::NotSound));
     assert_eq!(unsound.needs_spill(), Err(CacheError::NotSound));

@@ -40,7 +40,7 @@ fn call(cache: &mut PageCache, record: &[u8]) -> Answer {
         Operation::CheckSpill => cache.check_spill(n).err(),
         Operation::EvictOne => cache.evict_one().err(),
         Operation::SetSpill => cache.set_spill_enabled(option).err(),
-        Operation::Release => cache.release_page(key).err(),
+        Operation::Release => cache.release(key).err(),
         other => panic!("{other:?} has no method"),
     };
     let answer = cache.last();
