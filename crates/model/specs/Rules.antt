@@ -76,7 +76,7 @@ module _ (key handle : ℕ) (state : PageRecord) where
   onInsert how c = insertFound how (find key (c .row)) c
 
 -- ── rule 9: lookup, peek and release ─────────────────────────────────────────
--- the page has one holder more, with a touch or without; if its record can't count one more, nothing is changed
+-- a hit answers the page's handle and adds one holder, with a touch or without; if the record can't count one more, nothing is changed
 abbrev pub hitWith : ℕ → Recount → Bool → Page → Cache → Outcome
 hitWith key (Now state) true p c = touching (answer 0 (p .handle) (touch key (rewrite key state c)))
 hitWith key (Now state) false p c = answer 0 (p .handle) (rewrite key state c)
