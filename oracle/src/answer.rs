@@ -26,8 +26,9 @@ pub mod code {
     pub const BAD_REPLAY: u8 = 17;
     pub const NOT_NEEDED: u8 = 18;
     pub const NONE_SELECTED: u8 = 19;
+    pub const HOLDER_LIMIT: u8 = 20;
     /// How many there are.
-    pub const COUNT: usize = 20;
+    pub const COUNT: usize = 21;
 }
 
 /// Why the Rust isn't asked. The order is the one in which they are tested.
@@ -51,10 +52,13 @@ pub enum Mark {
     /// A forced insertion without a free slot, which the Rust doesn't have:
     /// 01's code 13.
     Slots,
+    /// One holder more than 65,535, where the Rust has no limit, or one less than
+    /// none: 02's code 20.
+    Holders,
 }
 
 impl Mark {
-    pub const ALL: [Mark; 8] = [
+    pub const ALL: [Mark; 9] = [
         Mark::Record,
         Mark::NoCache,
         Mark::Capacity,
@@ -63,6 +67,7 @@ impl Mark {
         Mark::OtherPage,
         Mark::OtherRecord,
         Mark::Slots,
+        Mark::Holders,
     ];
 
     /// Document 01's code for a record with this mark, if it has one.
@@ -76,6 +81,7 @@ impl Mark {
             Mark::OtherPage => Some(code::OTHER_PAGE),
             Mark::OtherRecord => None,
             Mark::Slots => Some(code::NO_SLOT),
+            Mark::Holders => Some(code::HOLDER_LIMIT),
         }
     }
 
@@ -89,6 +95,7 @@ impl Mark {
             Mark::OtherPage => "other page",
             Mark::OtherRecord => "other record",
             Mark::Slots => "slots",
+            Mark::Holders => "holders",
         }
     }
 }
@@ -171,8 +178,8 @@ pub struct State {
 pub const NO_CACHE: &str = "- no cache";
 
 impl State {
-    /// Writes `- CAPACITY SPILL ESTIMATE HELD`, then `KEY:HANDLE:USES` for each
-    /// page.
+    /// Writes `- CAPACITY SPILL ESTIMATE HELD`, then `KEY:HANDLE:USES:HOLDERS` for
+    /// each page.
     pub fn write_line(&self, line: &mut Vec<u8>) {
         line.extend_from_slice(b"- ");
         push_number(line, self.capacity as u64);
@@ -180,13 +187,15 @@ impl State {
         push_number(line, self.estimate as u64);
         line.push(b' ');
         push_number(line, self.ring.len() as u64);
-        for &RingEntry { key, handle, uses } in &self.ring {
+        for entry in &self.ring {
             line.push(b' ');
-            push_number(line, key.into());
+            push_number(line, entry.key.into());
             line.push(b':');
-            push_number(line, handle.into());
+            push_number(line, entry.handle.into());
             line.push(b':');
-            push_number(line, uses.into());
+            push_number(line, entry.uses.into());
+            line.push(b':');
+            push_number(line, entry.holders as u64);
         }
     }
 }

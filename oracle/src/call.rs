@@ -13,6 +13,8 @@ pub struct Reply {
     pub value: u64,
     /// Handles that a spill selected.
     pub selected: Vec<u32>,
+    /// The clone that a hit handed out.
+    pub found: Option<PageRef>,
 }
 
 impl Reply {
@@ -21,6 +23,7 @@ impl Reply {
             code,
             value,
             selected: Vec::new(),
+            found: None,
         }
     }
 }
@@ -76,7 +79,7 @@ pub fn call(cache: &mut PageCache, operation: Operation, record: &Record) -> Rep
             cache.set_spill_enabled(option);
             Reply::new(code::DONE, 0)
         }
-        _ => unreachable!("create, insertions and write_record go elsewhere"),
+        _ => unreachable!("create, insertions, write_record and release go elsewhere"),
     }
 }
 
@@ -86,18 +89,20 @@ fn spill(cache: &PageCache, most: usize) -> Reply {
         SpillResult::NotNeeded => Reply::new(code::NOT_NEEDED, 0),
         SpillResult::CacheFull => Reply::new(code::NONE_SELECTED, 0),
         SpillResult::PagesToSpill(guards) => Reply {
-            code: code::DONE,
-            value: guards.len() as u64,
             selected: guards.iter().map(|page| page.get().handle()).collect(),
+            ..Reply::new(code::DONE, guards.len() as u64)
         },
         SpillResult::Disabled => panic!("the Rust never builds SpillResult::Disabled"),
     }
 }
 
-/// The clone that the caller got is dropped at once.
 fn found_or_absent(page: Option<PageRef>) -> Reply {
     match page {
-        Some(page) => Reply::new(code::DONE, page.get().handle().into()),
+        Some(page) => Reply {
+            value: page.get().handle().into(),
+            found: Some(page),
+            ..Reply::new(code::DONE, 0)
+        },
         None => Reply::new(code::ABSENT, 0),
     }
 }

@@ -1,9 +1,9 @@
 //! Turns a replay record into a call of the Rust cache, and what the cache did
 //! into document 01's answer.
 //!
-//! The driver plays the caller: it owns the pages' holders, knows which handle
-//! stands under which key, and refuses with a mark what the Rust has no answer
-//! for. It never works out an answer.
+//! The driver plays the caller: it keeps the clones that the Rust hands out, knows
+//! which handle stands under which key, and refuses with a mark what the Rust has
+//! no answer for. It never works out an answer.
 
 use crate::answer::{code, Answer, Mark, Outcome, State};
 use crate::assert::take_passed;
@@ -32,7 +32,7 @@ pub enum WalkOrder {
 /// A page of the caller that stands in the cache.
 struct CallersPage {
     key: u32,
-    /// As many clones as the page has holders.
+    /// The clones that the caller keeps, as many as the page has holders.
     holders: Vec<PageRef>,
 }
 
@@ -63,12 +63,16 @@ impl Driver {
         // Measures begin here: another cache may have run on this thread.
         take_removed();
         take_passed();
-        let reply = match operation {
+        let mut reply = match operation {
             Operation::Create => self.create(record.number as usize),
             operation if operation.is_insertion() => return self.insert(operation, record),
             Operation::WriteRecord => self.write_record(record.key, &record.page()),
+            Operation::Release => self.release(record.key),
             operation => call(self.expect_cache_mut(), operation, record),
         };
+        if let Some(clone) = reply.found.take() {
+            self.clones_of(clone.get().handle()).push(clone);
+        }
         let removed = take_removed();
         self.forget(&removed);
         self.answer(operation, reply, removed)
@@ -84,12 +88,22 @@ impl Driver {
         })
     }
 
-    /// The handle and record of the page under a key.
+    /// The handle and record of the page under a key. Its holders are those that
+    /// the Rust counts.
+    ///
+    /// # Panics
+    /// If they aren't the clones that the caller keeps.
     pub fn stored(&self, key: u32) -> Option<(u32, PageRecord)> {
         let page = inspect::page(self.cache.as_ref()?, key)?;
         let handle = page.get().handle();
-        let holders = self.pages[&handle].holders.len();
-        Some((handle, page.record(holders as u16)))
+        let holders = inspect::holders(page);
+        assert_eq!(
+            holders,
+            self.pages[&handle].holders.len(),
+            "the Rust's count of page {key}'s holders isn't the caller's"
+        );
+        let holders = u16::try_from(holders).expect("one holder too many has its mark");
+        Some((handle, page.record(holders)))
     }
 
     /// The key under which a handle stands.
@@ -111,10 +125,25 @@ impl Driver {
         if operation.takes_page_record() && record.flags > flag::ALL {
             return Some(Mark::Flags);
         }
-        if operation.is_insertion() {
-            return self.insertion_mark(operation, record);
+        match operation {
+            Operation::Get | Operation::Peek | Operation::Release => {
+                self.holders_mark(operation, record.key)
+            }
+            _ if operation.is_insertion() => self.insertion_mark(operation, record),
+            _ => None,
         }
-        None
+    }
+
+    /// A hit adds a holder and a release takes one away. A lookup of a stale page is no
+    /// hit: the page is deleted.
+    fn holders_mark(&self, operation: Operation, key: u32) -> Option<Mark> {
+        let (_, stored) = self.stored(key)?;
+        let out_of_range = match operation {
+            Operation::Get => !stored.is_stale() && stored.holders == u16::MAX,
+            Operation::Peek => stored.holders == u16::MAX,
+            _ => stored.holders == 0,
+        };
+        out_of_range.then_some(Mark::Holders)
     }
 
     fn insertion_mark(&self, operation: Operation, record: &Record) -> Option<Mark> {
@@ -207,6 +236,24 @@ impl Driver {
             .holders
             .resize_with(record.holders.into(), || page.clone());
         Reply::new(code::DONE, 0)
+    }
+
+    /// The caller drops one of its clones; the cache isn't called.
+    fn release(&mut self, key: u32) -> Reply {
+        let Some(handle) = self.stored_handle(key) else {
+            return Reply::new(code::ABSENT, 0);
+        };
+        let clone = self.clones_of(handle).pop();
+        drop(clone.expect("a page without a holder has its mark"));
+        Reply::new(code::DONE, 0)
+    }
+
+    /// The clones that the caller keeps of a page in the cache.
+    fn clones_of(&mut self, handle: u32) -> &mut Vec<PageRef> {
+        let callers = self.pages.get_mut(&handle);
+        &mut callers
+            .expect("each held page is known to the caller")
+            .holders
     }
 
     /// The three insertions. The holders' clones exist before the call, so that

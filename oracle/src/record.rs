@@ -32,10 +32,11 @@ pub enum Operation {
     CheckSpill,
     EvictOne,
     SetSpill,
+    Release,
 }
 
 impl Operation {
-    pub const ALL: [Operation; 17] = [
+    pub const ALL: [Operation; 18] = [
         Operation::Create,
         Operation::Insert,
         Operation::ForceInsert,
@@ -53,6 +54,7 @@ impl Operation {
         Operation::CheckSpill,
         Operation::EvictOne,
         Operation::SetSpill,
+        Operation::Release,
     ];
 
     pub fn from_number(number: u8) -> Option<Self> {

@@ -106,6 +106,13 @@ const STATE: [&str; 5] = [
     "state: estimate",
     "state: held",
 ];
+/// The parts of a page, with a colon between them. Another key is another ring.
+const ENTRY: [&str; 4] = [
+    "state: ring",
+    "state: handle",
+    "state: uses",
+    "state: holders",
+];
 
 /// Names the first thing in which lines differ.
 pub fn first_difference(expected: &Pair, written: &Pair) -> &'static str {
@@ -146,7 +153,7 @@ fn differing_word<'a>(one: &'a [u8], other: &'a [u8]) -> Option<(usize, &'a [u8]
         .map(|(at, (due, word))| (at, due.unwrap_or(&[]), word.unwrap_or(&[])))
 }
 
-/// In which part two entries `KEY:HANDLE:USES` of the ring differ.
+/// In which part two entries of the ring differ.
 fn differing_entry(due: &[u8], word: &[u8]) -> &'static str {
     let parts = |entry: &[u8]| -> Vec<Vec<u8>> {
         entry
@@ -155,11 +162,9 @@ fn differing_entry(due: &[u8], word: &[u8]) -> &'static str {
             .collect()
     };
     let (due, word) = (parts(due), parts(word));
-    if due.len() != 3 || word.len() != 3 || due[0] != word[0] {
-        "state: ring"
-    } else if due[1] != word[1] {
-        "state: handle"
-    } else {
-        "state: uses"
+    let mut names = ENTRY.iter().zip(due.iter().zip(&word));
+    match names.find(|(_, (due, word))| due != word) {
+        Some((name, _)) if due.len() == word.len() => name,
+        _ => ENTRY[0],
     }
 }

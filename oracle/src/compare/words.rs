@@ -22,6 +22,7 @@ pub fn of_operation(operation: Operation) -> &'static str {
         Operation::CheckSpill => "check_spill",
         Operation::EvictOne => "evict_one",
         Operation::SetSpill => "set_spill",
+        Operation::Release => "release",
     }
 }
 
@@ -39,9 +40,11 @@ pub fn of_record(record: &Record) -> String {
             format!("{name} key {key}, handle {handle}: {page}")
         }
         Operation::WriteRecord => format!("{name} key {key}: {page}"),
-        Operation::Get | Operation::Delete | Operation::NotifyDirty | Operation::NotifySpilled => {
-            format!("{name} key {key}")
-        }
+        Operation::Get
+        | Operation::Delete
+        | Operation::NotifyDirty
+        | Operation::NotifySpilled
+        | Operation::Release => format!("{name} key {key}"),
         Operation::Peek if record.option == 1 => format!("{name} key {key} with a touch"),
         Operation::Peek => format!("{name} key {key}"),
         Operation::Truncate => format!("{name} above key {number}"),

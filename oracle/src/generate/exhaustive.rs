@@ -84,7 +84,8 @@ fn first_unwanted(sequence: &[Record], exact: bool) -> Option<usize> {
 
 /// The calls. Pages 1, 2 and 3 are clean, 3 is tagged with frame 5, 4 is dirty
 /// and 5 is held by the caller. A page's handle is its key times 100; the other
-/// handles of page 2 make it another page.
+/// handles of page 2 make it another page. Releases take a lookup's holder of page 2
+/// and the one that page 5 came with.
 pub fn alphabet() -> Vec<Record> {
     use Operation::*;
     let page = |operation, key: u32, flags| Record {
@@ -152,5 +153,7 @@ pub fn alphabet() -> Vec<Record> {
         number(CheckSpill, 1),
         Record::new(EvictOne),
         option(SetSpill, 0),
+        page(Release, 2, 0),
+        page(Release, 5, 0),
     ]
 }

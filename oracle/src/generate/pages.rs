@@ -20,6 +20,9 @@ pub enum Kind {
     Anything,
 }
 
+/// From here on the holders of a page are a crowd: nearly as many as it can have.
+pub const CROWD: u16 = u16::MAX - 9;
+
 /// Pages that a sweep takes, and stale ones.
 pub const LOOSE: [(Kind, u32); 5] = [
     (Kind::Clean, 12),
@@ -41,8 +44,8 @@ impl Kind {
             Kind::Dirty => page.flags |= flag::DIRTY,
             Kind::Spilled => page.flags |= flag::SPILLED | rng.pick(&[0, flag::DIRTY]),
             Kind::Locked => page.flags = flag::LOCKED | rng.pick(&[0, flag::LOADED]),
-            Kind::Pinned => page.pins = some_of_them(rng),
-            Kind::Held => page.holders = some_of_them(rng),
+            Kind::Pinned => page.pins = some_pins(rng),
+            Kind::Held => page.holders = some_holders(rng),
             Kind::Stale => page.flags = rng.pick(&[0, flag::SPILLED]),
             Kind::StaleRefused => {
                 page.flags = rng.pick(&[0, flag::DIRTY]);
@@ -76,22 +79,29 @@ pub fn change_one_thing(page: &mut PageRecord, rng: &mut Rng) {
             page.flags ^= flag::WAL_TAG;
             page.frame = any_frame(rng);
         }
-        6 => page.pins = if page.pins > 0 { 0 } else { some_of_them(rng) },
+        6 => page.pins = if page.pins > 0 { 0 } else { some_pins(rng) },
         7 => {
             page.holders = if page.holders > 0 {
                 0
             } else {
-                some_of_them(rng)
+                some_holders(rng)
             }
         }
         _ => page.overflow_cells = if page.overflow_cells > 0 { 0 } else { 1 },
     }
 }
 
-/// Pins or holders: seldom many, because each holder is a clone.
-fn some_of_them(rng: &mut Rng) -> u16 {
+fn some_pins(rng: &mut Rng) -> u16 {
     if rng.one_in(400) {
         return u16::MAX;
+    }
+    rng.pick(&[1, 1, 1, 2, 3])
+}
+
+/// Seldom many, because each holder is a clone.
+fn some_holders(rng: &mut Rng) -> u16 {
+    if rng.one_in(100) {
+        return rng.pick(&[u16::MAX - 1, u16::MAX]);
     }
     rng.pick(&[1, 1, 1, 2, 3])
 }

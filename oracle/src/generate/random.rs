@@ -5,9 +5,9 @@
 //! rare states (a pool of 256 pages none of which may go, a spill that is needed)
 //! are reached and stayed in for a while.
 
-use super::pages::{self, any_frame};
+use super::pages::{self, any_frame, Kind};
 use super::theme::Theme;
-use crate::answer::Mark;
+use crate::answer::{code, Mark, Outcome};
 use crate::driver::{Driver, WalkOrder};
 use crate::record::{flag, Operation, PageRecord, Record};
 use crate::rng::Rng;
@@ -43,6 +43,10 @@ pub struct Trace {
     /// Runs the Rust beside the trace, to know what is held.
     driver: Driver,
     episode: Episode,
+    /// The keys of hits that weren't released yet. Their pages may be gone.
+    to_release: Vec<u32>,
+    /// The key of the last page that was given a crowd of holders.
+    crowded: Option<u32>,
     written: usize,
 }
 
@@ -57,6 +61,8 @@ impl Trace {
             rng,
             driver: Driver::new(WalkOrder::AsRemoved),
             episode,
+            to_release: Vec::new(),
+            crowded: None,
             written: 0,
         }
     }
@@ -73,8 +79,25 @@ impl Trace {
         };
         self.episode.left = self.episode.left.saturating_sub(1);
         self.written += 1;
-        self.driver.apply(&record);
+        if let Outcome::Answer(answer) = self.driver.apply(&record) {
+            if answer.code == code::DONE {
+                self.keep_in_mind(&record);
+            }
+        }
         record
+    }
+
+    /// Keeps in mind which pages the call gave holders.
+    fn keep_in_mind(&mut self, record: &Record) {
+        let operation = record.good_operation().expect("the call was done");
+        match operation {
+            Operation::Create => self.to_release.clear(),
+            Operation::Get | Operation::Peek => self.to_release.push(record.key),
+            _ if operation.takes_page_record() && record.holders >= pages::CROWD => {
+                self.crowded = Some(record.key);
+            }
+            _ => {}
+        }
     }
 
     fn begin_episode(&mut self) -> Record {
@@ -104,14 +127,29 @@ impl Trace {
 
     fn in_domain(&mut self) -> Record {
         for _ in 0..TRIES {
-            let operation = self.rng.weighted(self.episode.theme.operations());
+            let operation = self.operation();
             let record = self.call(operation);
             let answered = self.driver.mark(&record).is_none();
             if answered && (!self.plan.exact || self.driver.is_exact(&record)) {
                 return record;
             }
         }
-        self.call(Operation::Peek)
+        self.call(Operation::NotifyDirty)
+    }
+
+    /// An operation of the theme, or one for a crowded page. A release comes seldom
+    /// if there is no hit to release.
+    fn operation(&mut self) -> Operation {
+        use Operation::*;
+        if self.crowded_key().is_some() && self.rng.one_in(2) {
+            return self.rng.pick(&[Get, Peek, WriteRecord, Release]);
+        }
+        loop {
+            let operation = self.rng.weighted(self.episode.theme.operations());
+            if operation != Release || !self.to_release.is_empty() || self.rng.one_in(10) {
+                return operation;
+            }
+        }
     }
 
     /// A record with a mark. Now and then two faults meet, so that the order of
@@ -177,19 +215,20 @@ impl Trace {
             Operation::Insert | Operation::ForceInsert | Operation::ForceUpsert => {
                 return self.insertion(operation, record);
             }
-            Operation::Get
-            | Operation::Delete
-            | Operation::NotifyDirty
-            | Operation::NotifySpilled => record.key = self.often_present_key(),
-            Operation::Peek => {
+            Operation::Delete | Operation::NotifyDirty | Operation::NotifySpilled => {
                 record.key = self.often_present_key();
+            }
+            Operation::Get => record.key = self.often_crowded_key(),
+            Operation::Peek => {
+                record.key = self.often_crowded_key();
                 record.option = self.rng.below(2) as u8;
             }
+            Operation::Release => record.key = self.often_held_key(),
             Operation::Truncate => record.number = self.key_limit(),
             Operation::RemoveFrames => record.number = self.frame_limit(),
             Operation::Clear => record.option = self.rng.below(2) as u8,
             Operation::WriteRecord => {
-                record.key = self.often_present_key();
+                record.key = self.often_crowded_key();
                 let page = self.rewritten(record.key);
                 return record.with_page(&page);
             }
@@ -243,8 +282,14 @@ impl Trace {
 
     /// Makes the record one that the Rust isn't asked about, if the state allows.
     fn spoil(&mut self, record: &mut Record) {
-        use Operation::{Create, ForceInsert, ForceUpsert, Insert, Resize, WriteRecord};
-        match self.rng.below(8) {
+        use Operation::*;
+        if self.crowded_key().is_some() && self.rng.percent(75) {
+            // A holder more than the page can have, if it has all of them.
+            record.operation = self.pick_operation(&[Get, Peek]);
+            record.key = self.often_crowded_key();
+            return;
+        }
+        match self.rng.below(9) {
             // A record that is bad in itself.
             0 => record.operation = self.number_of_no_operation(),
             1 => record.option = self.rng.between(2, 255) as u8,
@@ -276,6 +321,11 @@ impl Trace {
                 record.key = self.often_present_key();
                 record.handle = self.fresh_handle();
             }
+            // A holder less, of a page that nobody holds.
+            7 => {
+                record.operation = Release.number();
+                record.key = self.often_present_key();
+            }
             // One page more than there are slots, if the pool is full.
             _ => {
                 record.operation = self.pick_operation(&[ForceInsert, ForceUpsert]);
@@ -295,6 +345,33 @@ impl Trace {
 
     fn often_present_key(&mut self) -> u32 {
         self.often_a_key(|driver, key| driver.stored(key).is_some())
+    }
+
+    /// The key of a page with a crowd of holders, if it still has them.
+    fn crowded_key(&self) -> Option<u32> {
+        let key = self.crowded?;
+        let (_, page) = self.driver.stored(key)?;
+        (page.holders >= pages::CROWD).then_some(key)
+    }
+
+    /// A crowded page, of which there are few, or one that is often present.
+    fn often_crowded_key(&mut self) -> u32 {
+        match self.crowded_key() {
+            Some(key) if self.rng.one_in(2) => key,
+            _ => self.often_present_key(),
+        }
+    }
+
+    /// The page of a hit that wasn't released yet, or one that often has holders.
+    fn often_held_key(&mut self) -> u32 {
+        if self.to_release.is_empty() || self.rng.one_in(8) {
+            return self.often_a_key(|driver, key| {
+                let stored = driver.stored(key);
+                stored.is_some_and(|(_, page)| page.holders > 0)
+            });
+        }
+        let at = self.rng.below(self.to_release.len() as u64) as usize;
+        self.to_release.swap_remove(at)
     }
 
     fn often_absent_key(&mut self) -> u32 {
@@ -337,10 +414,18 @@ impl Trace {
         kind.draw(&mut self.rng)
     }
 
-    /// A new record for a key's page, or its own with one thing changed.
+    /// A new record for a key's page, or its own with one thing changed. A crowd of
+    /// holders mostly stays, the page becoming stale and not stale again.
     fn rewritten(&mut self, key: u32) -> PageRecord {
         let stored = self.driver.stored(key);
         match stored {
+            Some((_, page)) if page.holders >= pages::CROWD && self.rng.percent(80) => {
+                let kinds = [Kind::Clean, Kind::Clean, Kind::Stale, Kind::StaleRefused];
+                PageRecord {
+                    holders: page.holders,
+                    ..self.rng.pick(&kinds).draw(&mut self.rng)
+                }
+            }
             Some((_, mut page)) if self.rng.percent(70) => {
                 pages::change_one_thing(&mut page, &mut self.rng);
                 page

@@ -17,15 +17,18 @@ pub enum Theme {
     FullPool,
 }
 
+// Releases weigh more than the hits that they follow. Without a hit to release few
+// of them are written.
+
 const MIXED: [(Operation, u32); Operation::ALL.len()] = [
     (Create, 1),
-    (Insert, 40),
-    (ForceInsert, 16),
-    (ForceUpsert, 16),
-    (Get, 28),
+    (Insert, 44),
+    (ForceInsert, 18),
+    (ForceUpsert, 17),
+    (Get, 30),
     (Peek, 12),
     (Delete, 14),
-    (Resize, 8),
+    (Resize, 9),
     (Truncate, 4),
     (RemoveFrames, 4),
     (Clear, 2),
@@ -33,24 +36,26 @@ const MIXED: [(Operation, u32); Operation::ALL.len()] = [
     (NotifySpilled, 8),
     (WriteRecord, 24),
     (CheckSpill, 8),
-    (EvictOne, 12),
+    (EvictOne, 14),
     (SetSpill, 2),
+    (Release, 36),
 ];
 
-const EVICTIONS: [(Operation, u32); 10] = [
-    (Insert, 80),
+const EVICTIONS: [(Operation, u32); 11] = [
+    (Insert, 96),
     (ForceInsert, 8),
     (ForceUpsert, 8),
-    (Get, 60),
+    (Get, 64),
     (Peek, 20),
     (Delete, 4),
     (Resize, 3),
     (Truncate, 1),
     (WriteRecord, 12),
-    (EvictOne, 10),
+    (EvictOne, 12),
+    (Release, 80),
 ];
 
-const SPILLS: [(Operation, u32); 16] = [
+const SPILLS: [(Operation, u32); 17] = [
     (Insert, 30),
     (ForceInsert, 30),
     (ForceUpsert, 12),
@@ -67,9 +72,10 @@ const SPILLS: [(Operation, u32); 16] = [
     (CheckSpill, 40),
     (EvictOne, 4),
     (SetSpill, 2),
+    (Release, 20),
 ];
 
-const FULL_POOL: [(Operation, u32); 12] = [
+const FULL_POOL: [(Operation, u32); 13] = [
     (Insert, 10),
     (ForceInsert, 100),
     (ForceUpsert, 40),
@@ -82,6 +88,7 @@ const FULL_POOL: [(Operation, u32); 12] = [
     (WriteRecord, 8),
     (CheckSpill, 4),
     (EvictOne, 4),
+    (Release, 12),
 ];
 
 /// Pages that no sweep takes.
@@ -138,7 +145,7 @@ impl Theme {
     pub fn present_percent(self) -> u32 {
         match self {
             Theme::FullPool => 10,
-            _ => 45,
+            _ => 50,
         }
     }
 

@@ -78,15 +78,15 @@ fn example() -> Case {
             "0 0 0 0 - 0",
             "- 2 1 0 0",
             "0 0 0 1 10 0",
-            "- 2 1 1 1 10:100:0",
+            "- 2 1 1 1 10:100:0:0",
             "0 0 0 2 10 0",
-            "- 2 1 2 2 10:100:0 20:200:0",
+            "- 2 1 2 2 10:100:0:0 20:200:0:0",
             "0 100 0 2 10 0",
-            "- 2 1 2 2 10:100:1 20:200:0",
+            "- 2 1 2 2 10:100:1:1 20:200:0:0",
             "0 0 1 2 10 1 200",
-            "- 2 1 2 2 10:100:0 30:300:0",
+            "- 2 1 2 2 10:100:1:1 30:300:0:0",
             "4 0 0 2 10 0",
-            "- 2 1 2 2 10:100:0 30:300:0",
+            "- 2 1 2 2 10:100:1:1 30:300:0:0",
         ],
     }
 }
@@ -122,17 +122,23 @@ fn each_field_of_an_answer_is_held_to_the_rust() {
 #[test]
 fn each_part_of_a_state_is_held_to_the_rust() {
     let case = example();
-    case.refuses(9, "- 3 1 2 2 10:100:0 30:300:0", 5, "state: capacity");
-    case.refuses(9, "- 2 0 2 2 10:100:0 30:300:0", 5, "state: spill switch");
-    case.refuses(9, "- 2 1 1 2 10:100:0 30:300:0", 5, "state: estimate");
-    case.refuses(9, "- 2 1 2 1 10:100:0 30:300:0", 5, "state: held");
-    case.refuses(9, "- 2 1 2 2 30:300:0 10:100:0", 5, "state: ring");
-    case.refuses(9, "- 2 1 2 2 10:100:0", 5, "state: ring");
-    case.refuses(9, "- 2 1 2 2 10:100:0 30:300:0 5:5:0", 5, "state: ring");
-    case.refuses(9, "- 2 1 2 2 10:100:0 31:300:0", 5, "state: ring");
-    case.refuses(9, "- 2 1 2 2 10:100:0 30:301:0", 5, "state: handle");
-    case.refuses(9, "- 2 1 2 2 10:100:1 30:300:0", 5, "state: uses");
-    case.refuses(9, "- no cache", 5, "state: capacity");
+    let refuses = |state, what| case.refuses(9, state, 5, what);
+    refuses("- 3 1 2 2 10:100:1:1 30:300:0:0", "state: capacity");
+    refuses("- 2 0 2 2 10:100:1:1 30:300:0:0", "state: spill switch");
+    refuses("- 2 1 1 2 10:100:1:1 30:300:0:0", "state: estimate");
+    refuses("- 2 1 2 1 10:100:1:1 30:300:0:0", "state: held");
+    refuses("- 2 1 2 2 30:300:0:0 10:100:1:1", "state: ring");
+    refuses("- 2 1 2 2 10:100:1:1", "state: ring");
+    refuses("- 2 1 2 2 10:100:1:1 30:300:0:0 5:5:0:0", "state: ring");
+    refuses("- 2 1 2 2 10:100:1:1 31:300:0:0", "state: ring");
+    refuses("- 2 1 2 2 10:100:1:1 30:301:0:0", "state: handle");
+    refuses("- 2 1 2 2 10:100:0:1 30:300:0:0", "state: uses");
+    refuses("- 2 1 2 2 10:100:1:0 30:300:0:0", "state: holders");
+    refuses("- 2 1 2 2 10:100:1:1 30:300:0:1", "state: holders");
+    // Too few parts, and too many.
+    refuses("- 2 1 2 2 10:100:1 30:300:0", "state: ring");
+    refuses("- 2 1 2 2 10:100:1:1:0 30:300:0:0:0", "state: ring");
+    refuses("- no cache", "state: capacity");
 }
 
 #[test]
@@ -187,7 +193,7 @@ fn a_short_last_record_has_to_be_answered_bad() {
             let refused = compared(bytes, wrong);
             assert!(matches!(refused, Err(Failure::Short { .. })), "{wrong}");
         }
-        let refused = compared(bytes, "bad\n- 2 1 2 2 10:100:0 30:300:0\n");
+        let refused = compared(bytes, "bad\n- 2 1 2 2 10:100:1:1 30:300:0:0\n");
         assert!(matches!(refused, Err(Failure::Surplus(_))));
     }
     assert!(matches!(compared(0, "bad\n"), Err(Failure::Surplus(_))));
@@ -207,9 +213,10 @@ fn output_without_states_is_taken_only_if_told() {
     assert_eq!(what(refused), "value");
 }
 
-/// Each mark, and the code that has to be answered.
+/// Each mark that a small pool can get, and the code that has to be answered.
 fn marks() -> Case {
-    let state = "- 1 1 1 1 5:50:0";
+    let state = "- 1 1 1 1 5:50:0:0";
+    let crowded = "- 1 1 1 1 5:50:0:65535";
     Case {
         records: vec![
             lookup(5),
@@ -229,6 +236,17 @@ fn marks() -> Case {
             Record {
                 handle: 51,
                 ..insert(5)
+            },
+            release(5),
+            Record {
+                holders: u16::MAX,
+                ..paged(WriteRecord, 5)
+            },
+            lookup(5),
+            keyed(Peek, 6),
+            Record {
+                option: 1,
+                ..keyed(Peek, 5)
             },
         ],
         lines: vec![
@@ -250,6 +268,16 @@ fn marks() -> Case {
             state,
             "11 0 0 1 5 0",
             state,
+            "20 0 0 1 5 0",
+            state,
+            "0 0 0 1 5 0",
+            crowded,
+            "20 0 0 1 5 0",
+            crowded,
+            "4 0 0 1 5 0",
+            crowded,
+            "20 0 0 1 5 0",
+            crowded,
         ],
     }
 }
@@ -258,17 +286,43 @@ fn marks() -> Case {
 fn marks_have_their_codes_and_keep_the_state() {
     let case = marks();
     let summary = case.is_taken();
-    assert_eq!((summary.exactly, summary.marks), (2, 7));
+    assert_eq!((summary.exactly, summary.marks), (4, 10));
     case.refuses(0, "4 0 0 0 - 0", 1, "code");
     case.refuses(2, "16 0 0 0 - 0", 2, "code");
     case.refuses(8, "0 50 0 1 5 0", 5, "code");
-    case.refuses(9, "- 1 1 1 1 5:50:1", 5, "state: uses");
+    case.refuses(9, "- 1 1 1 1 5:50:1:0", 5, "state: uses");
     case.refuses(10, "10 0 0 1 5 0", 6, "code");
     case.refuses(12, "0 0 0 1 5 0", 7, "code");
     case.refuses(14, "8 0 0 1 5 0", 8, "code");
     case.refuses(16, "9 0 0 1 5 0", 9, "code");
     case.refuses(16, "11 51 0 1 5 0", 9, "value");
-    case.refuses(17, "- 1 1 1 1 5:50:1", 9, "state: uses");
+    case.refuses(17, "- 1 1 1 1 5:50:1:0", 9, "state: uses");
+    case.refuses(18, "0 0 0 1 5 0", 10, "code");
+    case.refuses(19, "- 1 1 1 1 5:50:0:65535", 10, "state: holders");
+    case.refuses(22, "0 50 0 1 5 0", 12, "code");
+    case.refuses(22, "20 50 0 1 5 0", 12, "value");
+    case.refuses(23, "- 1 1 1 1 5:50:1:65535", 12, "state: uses");
+    case.refuses(23, "- 1 1 1 1 5:50:0:65536", 12, "state: holders");
+    case.refuses(24, "20 0 0 1 5 0", 13, "code");
+    case.refuses(27, "- 1 1 1 1 5:50:1:65535", 14, "state: uses");
+    case.refuses(27, "- 1 1 1 1 5:50:0:0", 14, "state: holders");
+}
+
+#[test]
+fn a_release_is_told_with_its_key() {
+    let records = [create(1), insert(5), lookup(5), release(5)];
+    let output = "0 0 0 0 - 0\n- 1 1 0 0\n\
+        0 0 0 1 5 0\n- 1 1 1 1 5:50:0:0\n\
+        0 50 0 1 5 0\n- 1 1 1 1 5:50:1:1\n\
+        0 0 0 1 5 0\n- 1 1 1 1 5:50:1:1\n";
+    match compared(&records, output) {
+        Err(Failure::Differs(difference)) => {
+            assert_eq!(difference.call, "release key 5");
+            assert_eq!(difference.what, "state: holders");
+            assert_eq!(difference.rusts_state, "- 1 1 1 1 5:50:1:0");
+        }
+        other => panic!("{other:?}"),
+    }
 }
 
 /// A pool of 256 held pages, in which no forced insertion finds a slot.
@@ -317,17 +371,17 @@ fn truncation() -> Case {
             "0 0 0 0 - 0",
             "- 9 1 0 0",
             "0 0 0 1 5 0",
-            "- 9 1 1 1 5:50:0",
+            "- 9 1 1 1 5:50:0:0",
             "0 0 0 2 5 0",
-            "- 9 1 2 2 5:50:0 6:60:0",
+            "- 9 1 2 2 5:50:0:0 6:60:0:0",
             "0 0 0 3 5 0",
-            "- 9 1 3 3 5:50:0 7:70:0 6:60:0",
+            "- 9 1 3 3 5:50:0:0 7:70:0:0 6:60:0:0",
             "0 0 0 4 5 0",
-            "- 9 1 3 4 5:50:0 8:80:0 7:70:0 6:60:0",
+            "- 9 1 3 4 5:50:0:0 8:80:0:0 7:70:0:0 6:60:0:0",
             "5 6 0 3 8 1 50",
-            "- 9 1 2 3 8:80:0 7:70:0 6:60:0",
+            "- 9 1 2 3 8:80:0:0 7:70:0:0 6:60:0:0",
             "0 70 0 3 8 0",
-            "- 9 1 2 3 8:80:0 7:70:1 6:60:0",
+            "- 9 1 2 3 8:80:0:0 7:70:1:1 6:60:0:0",
         ],
     }
 }
@@ -344,8 +398,13 @@ fn a_refused_truncation_is_the_one_by_ascending_key() {
     case.refuses(10, "5 6 0 4 5 0", 6, "held");
     case.refuses(10, "0 0 0 0 - 4 50 60 70 80", 6, "code");
     case.refuses(10, "5 6 0 3 8 1 70", 6, "list");
-    case.refuses(11, "- 9 1 3 3 8:80:0 7:70:0 6:60:0", 6, "state: estimate");
-    case.refuses(11, "- 9 1 2 3 7:70:0 6:60:0 8:80:0", 6, "state: ring");
+    case.refuses(
+        11,
+        "- 9 1 3 3 8:80:0:0 7:70:0:0 6:60:0:0",
+        6,
+        "state: estimate",
+    );
+    case.refuses(11, "- 9 1 2 3 7:70:0:0 6:60:0:0 8:80:0:0", 6, "state: ring");
     // The comparison goes on in the pool that the ascending order left.
     case.refuses(12, "4 0 0 3 8 0", 7, "code");
 }
@@ -365,11 +424,11 @@ fn truncated_after(lookups: usize) -> Summary {
     replay(&mut input.as_slice(), &mut output, WalkOrder::ByKey, true).unwrap();
     let mut output = String::from_utf8(output).unwrap();
     let handles: String = (10..25).map(|key| format!(" {key}0")).collect();
-    let entry = |key: u32, uses| format!(" {key}:{key}0:{uses}");
-    let ring: String = (25..=40).rev().map(|key| entry(key, 0)).collect();
-    let touched = ring.replace(&entry(30, 0), &entry(30, 1));
+    let entry = |key: u32, uses, holders| format!(" {key}:{key}0:{uses}:{holders}");
+    let ring: String = (25..=40).rev().map(|key| entry(key, 0, 0)).collect();
+    let found = ring.replace(&entry(30, 0, 0), &entry(30, 1, 1));
     output += &format!("5 25 0 16 40 15{handles}\n- 50 1 16 16{ring}\n");
-    output += &format!("0 300 0 16 40 0\n- 50 1 16 16{touched}\n");
+    output += &format!("0 300 0 16 40 0\n- 50 1 16 16{found}\n");
     records.extend([numbered(Truncate, 9), lookup(30)]);
     compared(&records, &output).unwrap_or_else(|failure| panic!("{failure}"))
 }
@@ -406,27 +465,32 @@ fn a_refused_frame_removal_is_the_one_by_ascending_key() {
             "0 0 0 0 - 0",
             "- 9 1 0 0",
             "0 0 0 1 5 0",
-            "- 9 1 0 1 5:50:0",
+            "- 9 1 0 1 5:50:0:0",
             "0 0 0 2 5 0",
-            "- 9 1 0 2 5:50:0 1:10:0",
+            "- 9 1 0 2 5:50:0:0 1:10:0:0",
             "0 0 0 3 5 0",
-            "- 9 1 1 3 5:50:0 7:70:0 1:10:0",
+            "- 9 1 1 3 5:50:0:0 7:70:0:0 1:10:0:0",
             "0 0 0 4 5 0",
-            "- 9 1 2 4 5:50:0 8:80:0 7:70:0 1:10:0",
+            "- 9 1 2 4 5:50:0:0 8:80:0:0 7:70:0:0 1:10:0:0",
             "7 7 0 3 5 1 10",
-            "- 9 1 2 3 5:50:0 8:80:0 7:70:0",
+            "- 9 1 2 3 5:50:0:0 8:80:0:0 7:70:0:0",
         ],
     };
     assert_eq!(case.is_taken().up_to_key_order, 1);
     case.refuses(10, "7 7 0 4 5 0", 6, "held");
     case.refuses(10, "7 7 0 2 5 2 10 80", 6, "held");
     case.refuses(10, "6 5 0 4 5 0", 6, "code");
-    case.refuses(11, "- 9 1 1 3 5:50:0 8:80:0 7:70:0", 6, "state: estimate");
+    case.refuses(
+        11,
+        "- 9 1 1 3 5:50:0:0 8:80:0:0 7:70:0:0",
+        6,
+        "state: estimate",
+    );
 }
 
 #[test]
 fn a_refused_clear_names_the_first_dirty_key() {
-    let state = "- 9 1 1 3 7:70:0 6:60:0 5:50:0";
+    let state = "- 9 1 1 3 7:70:0:0 6:60:0:0 5:50:0:0";
     let case = Case {
         records: vec![
             create(9),
@@ -439,9 +503,9 @@ fn a_refused_clear_names_the_first_dirty_key() {
             "0 0 0 0 - 0",
             "- 9 1 0 0",
             "0 0 0 1 7 0",
-            "- 9 1 0 1 7:70:0",
+            "- 9 1 0 1 7:70:0:0",
             "0 0 0 2 7 0",
-            "- 9 1 1 2 7:70:0 5:50:0",
+            "- 9 1 1 2 7:70:0:0 5:50:0:0",
             "0 0 0 3 7 0",
             state,
             "6 6 0 3 7 0",
@@ -493,13 +557,13 @@ fn nothing_is_compared_between_another_record_and_the_next_creation() {
             "0 0 0 0 - 0",
             "- 2 1 0 0",
             "0 0 0 1 5 0",
-            "- 2 1 1 1 5:50:0",
+            "- 2 1 1 1 5:50:0:0",
             "0 50 0 1 5 0",
-            "- 2 1 0 1 5:50:1",
+            "- 2 1 0 1 5:50:1:0",
             "0 50 0 1 5 0",
-            "- 2 1 0 1 5:50:2",
+            "- 2 1 0 1 5:50:2:0",
             "15 0 0 1 5 0",
-            "- 2 1 0 1 5:50:2",
+            "- 2 1 0 1 5:50:2:0",
             "0 0 0 0 - 0",
             "- 1 1 0 0",
             "4 0 0 0 - 0",

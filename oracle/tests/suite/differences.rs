@@ -100,13 +100,13 @@ fn added() {
     gives(
         "create 1; insert 5; write_record 5 dirty; insert 6",
         "8 0 4 1 5 0",
-        "- 1 1 1 1 5:50:0",
+        "- 1 1 1 1 5:50:0:0",
     );
     parts(
         "create 2; insert 5; insert 6 handle=50",
         "12 0 0 1 5 0",
         "? handle taken",
-        "- 2 1 1 1 5:50:0",
+        "- 2 1 1 1 5:50:0:0",
     );
     gives("create 1; evict_one", "14 0 0 0 - 0", "- 1 1 0 0");
     parts_behind(
@@ -123,13 +123,13 @@ fn added() {
         "- 2 1 0 0",
     );
     parts("create 257", "15 0 0 0 - 0", "? capacity", "- no cache");
-    let operation_17 = Record {
-        operation: 17,
+    let operation_18 = Record {
+        operation: 18,
         ..Record::default()
     };
     parts_behind(
-        "a record with operation 17",
-        &[operation_17],
+        "a record with operation 18",
+        &[operation_18],
         "17 0 0 0 - 0",
         "? record",
         "- no cache",
@@ -142,12 +142,33 @@ fn added() {
     gives(
         "create 1; insert 5; force_upsert 5 handle=51",
         "0 50 0 1 5 0",
-        "- 1 1 1 1 5:51:1",
+        "- 1 1 1 1 5:51:1:0",
     );
     gives(
-        "create 1; insert 5; get 5; insert 6",
+        "create 1; insert 5; insert 5; insert 6",
         "0 0 1 1 6 1 50",
-        "- 1 1 1 1 6:60:0",
+        "- 1 1 1 1 6:60:0:0",
+    );
+}
+
+#[test]
+fn added_for_holders() {
+    gives(
+        "create 1; insert 5; get 5; release 5; insert 6",
+        "0 0 1 1 6 1 50",
+        "- 1 1 1 1 6:60:0:0",
+    );
+    parts(
+        "create 1; insert 5 holders=65535; get 5",
+        "20 0 0 1 5 0",
+        "? holders",
+        "- 1 1 1 1 5:50:0:65535",
+    );
+    parts(
+        "create 1; insert 5; release 5",
+        "20 0 0 1 5 0",
+        "? holders",
+        "- 1 1 1 1 5:50:0:0",
     );
 }
 
@@ -174,36 +195,56 @@ fn changed() {
         "create 2; insert 3; insert 4 locked; truncate 2",
         "5 4 0 1 4 1 30",
         "5 4 0 2 3 0",
-        "- 2 1 1 1 4:40:0",
+        "- 2 1 1 1 4:40:0:0",
     );
     parts(
         "create 2; insert 3 tagged frame=5; insert 4 locked tagged frame=5; remove_frames 4",
         "5 4 0 1 4 1 30",
         "5 4 0 2 3 0",
-        "- 2 1 1 1 4:40:0",
+        "- 2 1 1 1 4:40:0:0",
     );
     parts(
         "create 2; insert 3 dirty; insert 4 dirty; clear",
         "6 3 0 2 3 0",
         "6 4 0 2 3 0",
-        "- 2 1 0 2 3:30:0 4:40:0",
+        "- 2 1 0 2 3:30:0:0 4:40:0:0",
     );
     parts(
         "create 1; force_insert 3 dirty; force_insert 4 dirty; check_spill 1",
         "0 1 0 2 3 1 30",
         "0 1 0 2 3 1 40",
-        "- 1 1 0 2 3:30:0 4:40:0",
-    );
-    gives(
-        "create 1; insert 5; write_record 5 holders=1; insert 6",
-        "8 0 4 1 5 0",
-        "- 1 1 1 1 5:50:0",
+        "- 1 1 0 2 3:30:0:0 4:40:0:0",
     );
     parts(
         "create 2; insert 5; insert 5 handle=51",
         "11 0 0 1 5 0",
         "? other page",
-        "- 2 1 1 1 5:50:0",
+        "- 2 1 1 1 5:50:0:0",
+    );
+}
+
+#[test]
+fn changed_for_holders() {
+    gives(
+        "create 1; insert 5; get 5; insert 6",
+        "8 0 4 1 5 0",
+        "- 1 1 1 1 5:50:1:1",
+    );
+    gives(
+        "create 1; insert 5; write_record 5 holders=1; insert 6",
+        "8 0 4 1 5 0",
+        "- 1 1 1 1 5:50:0:1",
+    );
+    gives(
+        "create 1; insert 5; get 5; write_record 5; insert 6",
+        "0 0 1 1 6 1 50",
+        "- 1 1 1 1 6:60:0:0",
+    );
+    parts(
+        "create 1; insert 5; get 5; force_upsert 5 handle=51; release 5",
+        "20 0 0 1 5 0",
+        "? holders",
+        "- 1 1 1 1 5:51:2:0",
     );
 }
 
@@ -223,7 +264,7 @@ fn a_selection_pins_nothing() {
     let line = "0 1 0 2 3 1 30";
     document_has(trace, &[line]);
     let twice = records(trace);
-    let selected = format!("{line}\n- 1 1 0 2 3:30:0 4:40:0\n");
+    let selected = format!("{line}\n- 1 1 0 2 3:30:0:0 4:40:0:0\n");
     taken(&twice, &(rusts_output(&twice[..3]) + &selected + &selected));
     assert_eq!(rusts_line(&twice), rusts_line(&twice[..4]));
 }
@@ -249,6 +290,20 @@ fn while_a_clone_lives_its_page_stays() {
 }
 
 #[test]
+fn a_clone_counts_again_when_its_page_is_inserted_again() {
+    let mut cache = PageCache::new(1);
+    let (five, page) = rusts_page(5, flag::LOADED);
+    cache.insert(five, page).unwrap();
+    let clone = cache.get(&five).unwrap().expect("it is there");
+    cache.delete(five).unwrap();
+    cache.insert(five, clone.clone()).unwrap();
+    let (six, page) = rusts_page(6, flag::LOADED);
+    assert_eq!(cache.insert(six, page.clone()), Err(CacheError::Full));
+    drop(clone);
+    assert_eq!(cache.insert(six, page), Ok(()));
+}
+
+#[test]
 fn while_guards_live_the_other_page_is_selected() {
     let mut cache = PageCache::new(1);
     for (key, page) in [rusts_page(3, DIRTY), rusts_page(4, DIRTY)] {
@@ -270,59 +325,59 @@ fn the_ring_and_the_sweeps() {
     gives(
         "create 3; insert 5; insert 6; insert 7",
         "0 0 0 3 5 0",
-        "- 3 1 3 3 5:50:0 7:70:0 6:60:0",
+        "- 3 1 3 3 5:50:0:0 7:70:0:0 6:60:0:0",
     );
     gives_behind(
         "Then insert 8",
         &records("create 3; insert 5; insert 6; insert 7; insert 8"),
         "0 0 0 3 7 1 50",
-        "- 3 1 3 3 7:70:0 8:80:0 6:60:0",
+        "- 3 1 3 3 7:70:0:0 8:80:0:0 6:60:0:0",
     );
     gives_behind(
         "Then insert 9",
         &records("create 3; insert 5; insert 6; insert 7; insert 8; insert 9"),
         "0 0 0 3 8 1 70",
-        "- 3 1 3 3 8:80:0 9:90:0 6:60:0",
+        "- 3 1 3 3 8:80:0:0 9:90:0:0 6:60:0:0",
     );
     gives(
         "create 2; insert 5; insert 6; get 5",
         "0 50 0 2 5 0",
-        "- 2 1 2 2 5:50:1 6:60:0",
+        "- 2 1 2 2 5:50:1:1 6:60:0:0",
     );
     gives(
-        "create 1; insert 5; get 5; get 5; evict_one",
+        "create 1; insert 5; get 5; release 5; get 5; release 5; evict_one",
         "0 0 2 0 - 1 50",
         "- 1 1 0 0",
     );
     gives(
-        "create 1; insert 5; peek 5; evict_one",
+        "create 1; insert 5; peek 5; release 5; evict_one",
         "0 0 0 0 - 1 50",
         "- 1 1 0 0",
     );
     gives(
-        "create 1; insert 1; get 1; insert 5",
+        "create 1; insert 1; insert 1; insert 5",
         "8 0 4 1 1 0",
-        "- 1 1 0 1 1:10:1",
+        "- 1 1 0 1 1:10:1:0",
     );
     gives(
         "create 1; insert 5 dirty spilled; insert 6",
         "0 0 0 1 6 1 50",
-        "- 1 1 1 1 6:60:0",
+        "- 1 1 1 1 6:60:0:0",
     );
     gives(
         "create 1; insert 1; insert 5",
         "8 0 4 1 1 0",
-        "- 1 1 0 1 1:10:0",
+        "- 1 1 0 1 1:10:0:0",
     );
     gives(
         "create 0; force_insert 5",
         "0 0 0 1 5 0",
-        "- 0 1 1 1 5:50:0",
+        "- 0 1 1 1 5:50:0:0",
     );
     gives(
         "create 0; force_insert 5; insert 6",
         "8 0 0 1 5 0",
-        "- 0 1 1 1 5:50:0",
+        "- 0 1 1 1 5:50:0:0",
     );
 }
 
@@ -331,17 +386,17 @@ fn insertion_and_lookup() {
     gives(
         "create 1; force_insert 3 dirty; force_insert 4 dirty; insert 5",
         "8 0 8 2 3 0",
-        "- 1 1 0 2 3:30:0 4:40:0",
+        "- 1 1 0 2 3:30:0:0 4:40:0:0",
     );
     gives(
         "create 0; force_insert 5; force_insert 6",
         "0 0 0 2 5 0",
-        "- 0 1 2 2 5:50:0 6:60:0",
+        "- 0 1 2 2 5:50:0:0 6:60:0:0",
     );
     gives(
         "create 1; insert 5 flags=4; force_upsert 5 handle=51",
         "6 5 0 1 5 0",
-        "- 1 1 0 1 5:50:0",
+        "- 1 1 0 1 5:50:0:0",
     );
     gives(
         "create 1; insert 1 flags=0; get 1",
@@ -351,12 +406,12 @@ fn insertion_and_lookup() {
     gives(
         "create 1; insert 5 flags=12; get 5",
         "6 5 0 1 5 0",
-        "- 1 1 1 1 5:50:0",
+        "- 1 1 1 1 5:50:0:0",
     );
     gives(
         "create 1; insert 5 flags=0; peek 5",
         "0 50 0 1 5 0",
-        "- 1 1 1 1 5:50:0",
+        "- 1 1 1 1 5:50:0:1",
     );
 }
 
@@ -365,22 +420,22 @@ fn resize_truncation_frame_removal_clear() {
     gives(
         "create 0; force_insert 5; force_insert 6; resize 1",
         "0 0 0 1 6 1 50",
-        "- 1 1 1 1 6:60:0",
+        "- 1 1 1 1 6:60:0:0",
     );
     gives(
         "create 0; force_insert 3 dirty; force_insert 4 dirty; resize 1",
         "10 0 8 2 3 0",
-        "- 0 1 0 2 3:30:0 4:40:0",
+        "- 0 1 0 2 3:30:0:0 4:40:0:0",
     );
     gives(
         "create 2; insert 4 locked; insert 5; truncate 2",
         "5 4 0 2 4 0",
-        "- 2 1 2 2 4:40:0 5:50:0",
+        "- 2 1 2 2 4:40:0:0 5:50:0:0",
     );
     gives(
         "create 2; insert 4 locked tagged frame=5; insert 5 tagged frame=5; remove_frames 4",
         "5 4 0 2 4 0",
-        "- 2 1 2 2 4:40:0 5:50:0",
+        "- 2 1 2 2 4:40:0:0 5:50:0:0",
     );
     gives(
         "create 1; insert 5 dirty; clear dirty",
@@ -394,37 +449,37 @@ fn the_estimate() {
     gives(
         "create 1; insert 5 locked; insert 6",
         "8 0 4 1 5 0",
-        "- 1 1 1 1 5:50:0",
+        "- 1 1 1 1 5:50:0:0",
     );
     comes_to(
         &records("create 1; insert 5 dirty; write_record 5 loaded"),
         "0 0 0 1 5 0",
-        "- 1 1 0 1 5:50:0",
+        "- 1 1 0 1 5:50:0:0",
     );
     gives(
         "create 1; insert 5 dirty; write_record 5 loaded; insert 6",
         "0 0 0 1 6 1 50",
-        "- 1 1 1 1 6:60:0",
+        "- 1 1 1 1 6:60:0:0",
     );
     gives(
         "create 1; force_insert 3 dirty; force_insert 4 dirty; write_record 3 loaded; check_spill 1",
         "18 0 0 2 3 0",
-        "- 1 1 0 2 3:30:0 4:40:0",
+        "- 1 1 0 2 3:30:0:0 4:40:0:0",
     );
     gives(
         "create 2; insert 5; insert 6 dirty; notify_dirty 6",
         "0 0 0 2 5 0",
-        "- 2 1 0 2 5:50:0 6:60:0",
+        "- 2 1 0 2 5:50:0:0 6:60:0:0",
     );
     gives(
         "create 1; insert 5; notify_spilled 5",
         "0 0 0 1 5 0",
-        "- 1 1 2 1 5:50:0",
+        "- 1 1 2 1 5:50:0:0",
     );
     gives(
         "create 1; insert 5; notify_dirty 6",
         "0 0 0 1 5 0",
-        "- 1 1 1 1 5:50:0",
+        "- 1 1 1 1 5:50:0:0",
     );
 }
 
@@ -433,42 +488,42 @@ fn spilling() {
     gives(
         "create 1; force_insert 3 dirty; force_insert 4 dirty; set_spill off; check_spill 1",
         "18 0 0 2 3 0",
-        "- 1 0 0 2 3:30:0 4:40:0",
+        "- 1 0 0 2 3:30:0:0 4:40:0:0",
     );
     gives(
         "create 2; insert 5; insert 6; check_spill 1",
         "18 0 0 2 5 0",
-        "- 2 1 2 2 5:50:0 6:60:0",
+        "- 2 1 2 2 5:50:0:0 6:60:0:0",
     );
     gives(
         "create 1; insert 5 dirty; check_spill 1",
         "18 0 0 1 5 0",
-        "- 1 1 0 1 5:50:0",
+        "- 1 1 0 1 5:50:0:0",
     );
     gives(
         "create 0; force_insert 3 dirty; check_spill 1",
         "18 0 0 1 3 0",
-        "- 0 1 0 1 3:30:0",
+        "- 0 1 0 1 3:30:0:0",
     );
     gives(
         "create 1; force_insert 3 dirty; force_insert 4 dirty; check_spill 0",
         "19 0 0 2 3 0",
-        "- 1 1 0 2 3:30:0 4:40:0",
+        "- 1 1 0 2 3:30:0:0 4:40:0:0",
     );
     gives(
         "create 1; force_insert 3 locked dirty; force_insert 4 locked dirty; force_insert 5; check_spill 1",
         "19 0 0 3 3 0",
-        "- 1 1 1 3 3:30:0 5:50:0 4:40:0",
+        "- 1 1 1 3 3:30:0:0 5:50:0:0 4:40:0:0",
     );
     comes_to(
         &records("create 1; force_insert 3 locked dirty; force_insert 4 locked dirty; force_insert 5; evict_one"),
         "0 0 1 2 4 1 50",
-        "- 1 1 0 2 4:40:0 3:30:0",
+        "- 1 1 0 2 4:40:0:0 3:30:0:0",
     );
     gives(
         "create 1; force_insert 3 dirty cells=1; force_insert 4 dirty; check_spill 2",
         "0 1 0 2 3 1 40",
-        "- 1 1 0 2 3:30:0 4:40:0",
+        "- 1 1 0 2 3:30:0:0 4:40:0:0",
     );
 }
 
@@ -482,7 +537,7 @@ fn for_tests_and_verification() {
     gives(
         "create 1; insert 1; evict_one",
         "8 0 4 1 1 0",
-        "- 1 1 0 1 1:10:0",
+        "- 1 1 0 1 1:10:0:0",
     );
 }
 

@@ -28,8 +28,8 @@ fn states_follow_answers_and_marks() {
     let lines = output_of(&["replay", "--state"], &input);
     let expected = "? no cache\n- no cache\n\
         0 0 0 0 - 0\n- 2 1 0 0\n\
-        0 0 0 1 5 0\n- 2 1 1 1 5:50:0\n\
-        ? capacity\n- 2 1 1 1 5:50:0\n";
+        0 0 0 1 5 0\n- 2 1 1 1 5:50:0:0\n\
+        ? capacity\n- 2 1 1 1 5:50:0:0\n";
     assert_eq!(String::from_utf8(lines).unwrap(), expected);
 }
 

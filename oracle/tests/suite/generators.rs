@@ -1,6 +1,6 @@
 //! What the generated traces reach.
 
-use oracle::answer::{Mark, Outcome};
+use oracle::answer::{code, Mark, Outcome};
 use oracle::driver::{Driver, WalkOrder};
 use oracle::generate::{exhaustive, random};
 use oracle::record::{flag, Operation, Operation::*, Record};
@@ -39,7 +39,7 @@ pub fn possible_codes(operation: Operation) -> &'static [u8] {
         ForceInsert => &[0, 6, 7, 9],
         ForceUpsert => &[0, 6, 7],
         Get => &[0, 4, 6, 7],
-        Peek | WriteRecord => &[0, 4],
+        Peek | WriteRecord | Release => &[0, 4],
         Delete | Truncate => &[0, 5, 6, 7],
         Resize => &[0, 10],
         RemoveFrames => &[0, 5, 7],
@@ -51,7 +51,7 @@ pub fn possible_codes(operation: Operation) -> &'static [u8] {
 
 /// Every mark that a generated call of an operation can get.
 pub fn possible_marks(operation: Operation) -> &'static [Mark] {
-    use Mark::{Capacity, Flags, HandleTaken, NoCache, OtherPage, Slots};
+    use Mark::{Capacity, Flags, HandleTaken, Holders, NoCache, OtherPage, Slots};
     match operation {
         Create => &[Mark::Record, Capacity],
         Insert => &[Mark::Record, NoCache, Flags, HandleTaken, OtherPage],
@@ -59,6 +59,7 @@ pub fn possible_marks(operation: Operation) -> &'static [Mark] {
         ForceUpsert => &[Mark::Record, NoCache, Flags, HandleTaken, Slots],
         Resize => &[Mark::Record, NoCache, Capacity],
         WriteRecord => &[Mark::Record, NoCache, Flags],
+        Get | Peek | Release => &[Mark::Record, NoCache, Holders],
         _ => &[Mark::Record, NoCache],
     }
 }
@@ -155,7 +156,7 @@ fn every_kind_of_page_and_pool_arises() {
     has(&reached.handles, [0, u32::MAX]);
     has(&reached.flags, 0..=flag::ALL);
     has(&reached.pins, [0, 1, u16::MAX]);
-    has(&reached.holders, [0, 1, u16::MAX]);
+    has(&reached.holders, [0, 1, 2, 3, u16::MAX - 1, u16::MAX]);
     has(&reached.overflow_cells, [0, 1, 255]);
     has(&reached.frames, [0, 1, u64::MAX]);
     has(&reached.uses, 0..=3);
@@ -164,6 +165,89 @@ fn every_kind_of_page_and_pool_arises() {
     assert!(reached.spill_off);
     assert!(reached.estimate_below_pages_that_count);
     assert!(reached.estimate_above_pages_that_count);
+}
+
+/// What was asked of a page's holders: by which call, whether the page was stale, how
+/// many there were, and the code.
+type Asked = (Operation, bool, u16, u8);
+
+/// All of that in a trace, for pages that were there.
+fn asked_of_holders(trace: &[Record]) -> BTreeSet<Asked> {
+    let mut asked = BTreeSet::new();
+    let mut driver = Driver::new(WalkOrder::ByKey);
+    for record in trace {
+        let page = driver.stored(record.key);
+        let code = match driver.apply(record) {
+            Outcome::Answer(answer) => answer.code,
+            Outcome::Mark(Mark::Holders) => code::HOLDER_LIMIT,
+            Outcome::Mark(_) => continue,
+        };
+        let operation = record.good_operation().expect("it has no other mark");
+        if let (Get | Peek | Release, Some((_, page))) = (operation, page) {
+            asked.insert((operation, page.is_stale(), page.holders, code));
+        }
+    }
+    asked
+}
+
+#[test]
+fn holders_meet_their_limits() {
+    let most = u16::MAX;
+    let in_domain = [
+        (Get, false, most - 1, 0),
+        (Get, true, most, 4),
+        (Get, true, most, 6),
+        (Get, true, most, 7),
+        (Peek, false, most - 1, 0),
+        (Peek, true, most - 1, 0),
+        (Release, false, most, 0),
+        (Release, true, most, 0),
+        (Release, false, 1, 0),
+        (Release, true, 1, 0),
+    ];
+    let with_marks = [
+        (Get, false, most, 20),
+        (Peek, false, most, 20),
+        (Peek, true, most, 20),
+        (Release, false, 0, 20),
+        (Release, true, 0, 20),
+    ];
+    let asked = asked_of_holders(&random_trace(1, 100_000, 5, false));
+    has(&asked, in_domain.into_iter().chain(with_marks));
+    let asked = asked_of_holders(&random_trace(1, 100_000, 0, true));
+    has(&asked, in_domain);
+}
+
+#[test]
+fn hits_are_released_so_that_pages_may_go() {
+    let mut driver = Driver::new(WalkOrder::ByKey);
+    let (mut pages, mut held) = (0, 0);
+    // By the number of times that the sweep passed all pages.
+    let mut gone = [0; 4];
+    let mut full = 0;
+    for record in random_trace(1, 100_000, 0, true) {
+        let Outcome::Answer(answer) = driver.apply(&record) else {
+            panic!("a mark for {record:?}");
+        };
+        match (record.good_operation(), answer.code) {
+            (Some(EvictOne), 0) => gone[answer.passed as usize / (answer.held + 1)] += 1,
+            (Some(EvictOne), 8) => full += 1,
+            _ => {}
+        }
+        let ring = driver.state().expect("it begins with a creation").ring;
+        pages += ring.len();
+        held += ring.iter().filter(|entry| entry.holders > 0).count();
+    }
+    assert!(
+        (15..30).contains(&(100 * held / pages)),
+        "{held} of {pages}"
+    );
+    let least = [1_500, 80, 20, 15];
+    assert!(
+        gone.iter().zip(&least).all(|(n, least)| n > least),
+        "{gone:?}"
+    );
+    assert!((1_000..2_500).contains(&full), "{full}");
 }
 
 #[test]
@@ -300,7 +384,7 @@ fn all_wanted(sequence: &[Record], exact: bool) -> bool {
 fn the_alphabet_has_every_operation_but_creation_once_each() {
     let letters = exhaustive::alphabet();
     let operations: BTreeSet<u8> = letters.iter().map(|record| record.operation).collect();
-    assert!(operations.into_iter().eq(1..=16));
+    assert!(operations.into_iter().eq(1..Operation::ALL.len() as u8));
     let different: BTreeSet<_> = letters.iter().map(Record::to_bytes).collect();
     assert_eq!(different.len(), letters.len());
 }

@@ -6,6 +6,7 @@ mod differences;
 mod document;
 mod files;
 mod generators;
+mod holders;
 mod marks;
 mod pool;
 mod readings;

@@ -55,6 +55,10 @@ pub fn lookup(key: u32) -> Record {
     keyed(Operation::Get, key)
 }
 
+pub fn release(key: u32) -> Record {
+    keyed(Operation::Release, key)
+}
+
 pub fn evict_one() -> Record {
     Record::new(Operation::EvictOne)
 }
@@ -95,6 +99,13 @@ impl Pool {
         assert!(answer.starts_with("0 "), "{answer} for {record:?}");
     }
 
+    /// Raises a present page's use count without a holder: an insertion answered 9.
+    #[track_caller]
+    pub fn touch(&mut self, key: u32) {
+        let answer = self.call(insert(key));
+        assert!(answer.starts_with("9 "), "{answer} for {key}");
+    }
+
     pub fn state(&self) -> State {
         self.driver.state().expect("the pool was created")
     }
@@ -107,6 +118,14 @@ impl Pool {
     pub fn ring(&self) -> Vec<(u32, u8)> {
         let ring = self.state().ring;
         ring.iter().map(|entry| (entry.key, entry.uses)).collect()
+    }
+
+    /// Keys and holders in sweep order from the hand.
+    pub fn holders(&self) -> Vec<(u32, usize)> {
+        let ring = self.state().ring;
+        ring.iter()
+            .map(|entry| (entry.key, entry.holders))
+            .collect()
     }
 
     /// Makes the call, whose line has to be this one and which has to leave the

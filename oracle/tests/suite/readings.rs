@@ -197,7 +197,7 @@ fn a_pending_resize_keeps_its_evictions_and_its_capacity() {
     let mut pool = Pool::created(3);
     pool.done(flagged(Insert, 5, DIRTY));
     pool.done(insert(6));
-    pool.done(lookup(6));
+    pool.touch(6);
     pool.done(flagged(Insert, 7, DIRTY));
     assert_eq!(pool.ring(), [(5, 0), (7, 0), (6, 1)]);
     // Five pages passed before 6 goes, then 4 * 2.
@@ -218,7 +218,7 @@ fn a_failed_sweep_changes_nothing() {
         },
     ] {
         pool.done(record);
-        pool.done(lookup(record.key));
+        pool.touch(record.key);
     }
     pool.gives_and_keeps_state(evict_one(), "8 0 16 4 1 0");
     pool.gives_and_keeps_state(insert(9), "8 0 16 4 1 0");
@@ -230,7 +230,7 @@ fn only_pages_that_may_go_lose_uses() {
     pool.done(flagged(Insert, 5, LOADED | flag::LOCKED));
     pool.done(insert(6));
     for key in [5, 5, 6, 6] {
-        pool.done(lookup(key));
+        pool.touch(key);
     }
     pool.gives(evict_one(), "0 0 5 1 5 1 60");
     assert_eq!(pool.ring(), [(5, 2)]);
@@ -325,21 +325,14 @@ fn lookup_of_a_stale_page_deletes_it() {
 fn peek_of_a_stale_page_is_a_hit() {
     let mut pool = Pool::created(3);
     pool.done(flagged(Insert, 5, 0));
-    pool.gives_and_keeps_state(keyed(Peek, 5), "0 50 0 1 5 0");
+    pool.gives(keyed(Peek, 5), "0 50 0 1 5 0");
+    assert_eq!(pool.ring(), [(5, 0)]);
     let touching = Record {
         option: 1,
         ..keyed(Peek, 5)
     };
     pool.gives(touching, "0 50 0 1 5 0");
     assert_eq!(pool.ring(), [(5, 1)]);
-}
-
-#[test]
-fn lookup_leaves_the_holders_as_they_are() {
-    let mut pool = Pool::created(3);
-    pool.done(insert(5));
-    pool.done(lookup(5));
-    pool.gives(evict_one(), "0 0 1 0 - 1 50");
 }
 
 #[test]
@@ -491,6 +484,7 @@ fn key_0_and_handle_0_are_legal() {
     let mut pool = Pool::created(1);
     pool.gives(insert(0), "0 0 0 1 0 0");
     pool.gives(lookup(0), "0 0 0 1 0 0");
+    pool.gives(release(0), "0 0 0 1 0 0");
     pool.gives(insert(9), "0 0 1 1 9 1 0");
 }
 

@@ -16,7 +16,9 @@ fn example_of_the_replay_program() {
     pool.gives(lookup(10), "0 100 0 2 10 0");
     pool.gives(page(30, 300), "0 0 1 2 10 1 200");
     pool.gives(lookup(20), "4 0 0 2 10 0");
-    assert_eq!(pool.ring(), [(10, 0), (30, 0)]);
+    // The sweep passed 10, which is held, and took no use of it.
+    assert_eq!(pool.ring(), [(10, 1), (30, 0)]);
+    assert_eq!(pool.holders(), [(10, 1), (30, 0)]);
 }
 
 #[test]
@@ -37,7 +39,7 @@ fn p2_one_page_with_count_3() {
     let mut pool = Pool::created(3);
     pool.done(insert(5));
     for _ in 0..5 {
-        pool.gives(lookup(5), "0 50 0 1 5 0");
+        pool.touch(5);
     }
     assert_eq!(pool.ring(), [(5, 3)]);
     pool.gives(evict_one(), "0 0 3 0 - 1 50");
@@ -50,7 +52,7 @@ fn p3_three_pages_with_count_3() {
     for key in [5, 6, 7] {
         pool.done(insert(key));
         for _ in 0..3 {
-            pool.done(lookup(key));
+            pool.touch(key);
         }
     }
     assert_eq!(pool.ring(), [(5, 3), (7, 3), (6, 3)]);
@@ -64,7 +66,7 @@ fn p4_counts_2_and_1() {
     pool.done(insert(5));
     pool.done(insert(6));
     for key in [5, 5, 6] {
-        pool.done(lookup(key));
+        pool.touch(key);
     }
     assert_eq!(pool.ring(), [(5, 2), (6, 1)]);
     pool.gives(evict_one(), "0 0 3 1 5 1 60");

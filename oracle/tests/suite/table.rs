@@ -28,7 +28,7 @@ fn column(name: &str) -> Vec<&'static str> {
 fn codes_of_other_callers(operation: Operation) -> &'static [u8] {
     match operation {
         Create => &[code::BAD_LENGTHS],
-        Peek | NotifyDirty | NotifySpilled | WriteRecord | SetSpill => &[],
+        Peek | NotifyDirty | NotifySpilled | WriteRecord | SetSpill | Release => &[],
         _ => &[code::SHORT_LIST],
     }
 }

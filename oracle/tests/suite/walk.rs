@@ -18,12 +18,13 @@ fn driver_after(records: &[Record]) -> Driver {
 }
 
 /// The outcome with this answer, in a pool of capacity 9 whose pages have handles
-/// ten times their keys and were never touched.
+/// ten times their keys, were never touched and are held by nobody.
 fn after(code: u8, value: u64, list: &[u32], estimate: usize, ring: &[u32]) -> After {
     let entry = |&key: &u32| RingEntry {
         key,
         handle: 10 * key,
         uses: 0,
+        holders: 0,
     };
     After {
         answer: Answer {

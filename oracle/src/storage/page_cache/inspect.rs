@@ -2,6 +2,7 @@
 //! nothing by itself.
 
 use super::{CacheError, PageCache, PageCacheEntry, PageCacheKey, PageRef};
+use crate::sync::Arc;
 
 /// One page of the ring.
 #[derive(Clone, Copy, Debug, PartialEq, Eq)]
@@ -9,6 +10,7 @@ pub struct RingEntry {
     pub key: u32,
     pub handle: u32,
     pub uses: u8,
+    pub holders: usize,
 }
 
 /// The ring in sweep order, from the hand.
@@ -46,6 +48,7 @@ fn ring_entry(entry: &PageCacheEntry) -> RingEntry {
         key: entry.key.0 as u32,
         handle: entry.page.get().handle(),
         uses: entry.ref_bit,
+        holders: holders(&entry.page),
     }
 }
 
@@ -65,6 +68,11 @@ pub fn page(cache: &PageCache, key: u32) -> Option<&PageRef> {
     let entry = cache.map.get(&PageCacheKey(key as usize))?;
     // The map's pointers are entries of the queue, which owns them.
     Some(unsafe { &(**entry).page })
+}
+
+/// How many hold a page beside the cache, by the count that the Rust goes by.
+pub fn holders(page: &PageRef) -> usize {
+    Arc::strong_count(page) - 1
 }
 
 /// The held pages with their keys, in the order in which the Rust walks its map.
