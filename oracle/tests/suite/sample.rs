@@ -2,7 +2,9 @@
 //! operation and every answer that the Rust can give.
 
 use crate::binary::output_of;
-use oracle::record::Operation;
+use oracle::answer::Outcome;
+use oracle::driver::{Driver, WalkOrder};
+use oracle::record::{Operation, Record};
 use std::collections::BTreeSet;
 
 const RECORDS: &[u8] = include_bytes!("../../sample/records.bin");
@@ -13,7 +15,7 @@ const GENERATE: [&str; 7] = [
     "generate",
     "random",
     "--seed",
-    "114",
+    "138",
     "--records",
     "4000",
     "--exact",
@@ -51,6 +53,31 @@ fn every_operation_and_every_answer_is_in_it() {
         .map(|line| line.split(' ').next().unwrap().parse().expect("no marks"))
         .collect();
     assert!(codes.into_iter().eq([0, 4, 5, 6, 7, 8, 9, 10, 14, 18, 19]));
+}
+
+#[test]
+fn releases_and_pages_with_all_their_holders_are_in_it() {
+    let mut driver = Driver::new(WalkOrder::ByKey);
+    let mut asked = BTreeSet::new();
+    for bytes in RECORDS.chunks(32) {
+        let record = Record::from_bytes(bytes.try_into().expect("a whole record"));
+        let holders = driver.stored(record.key).map(|(_, page)| page.holders);
+        let Outcome::Answer(answer) = driver.apply(&record) else {
+            panic!("a mark for {record:?}");
+        };
+        asked.insert((record.good_operation().unwrap(), holders, answer.code));
+    }
+    for expected in [
+        (Operation::Get, Some(u16::MAX), 4),
+        (Operation::Get, Some(u16::MAX), 7),
+        (Operation::Get, Some(u16::MAX - 1), 0),
+        (Operation::Peek, Some(u16::MAX - 1), 0),
+        (Operation::Release, Some(u16::MAX), 0),
+        (Operation::Release, Some(1), 0),
+        (Operation::Release, None, 4),
+    ] {
+        assert!(asked.contains(&expected), "{expected:?}");
+    }
 }
 
 #[test]
