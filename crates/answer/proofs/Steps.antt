@@ -180,6 +180,6 @@ pub hit-unlisted : (key : ℕ) (asked : Bool) (p : Page) (c : Cache) → hit key
 hit-unlisted key asked p c = go (oneHolderMore (p .state)) asked
   where
     go : (r : Recount) (b : Bool) → hitWith key r b p c .listed ≡ []
-    go (Now state) true = refl
-    go (Now state) false = refl
+    go (Now holders) true = refl
+    go (Now holders) false = refl
     go AtLimit b = refl

@@ -9,7 +9,7 @@ use Rattle.page.specs.Record.{oneHolderLess}
 use Rattle.page.specs.declared.record.PageRecord.{PageRecord}
 use Rattle.page.specs.declared.record.Recount.{Recount}
 use Rattle.page.specs.declared.record.Recount.the-variants.{Now, AtLimit}
-use Rattle.model.specs.Row.{Entry, find}
+use Rattle.model.specs.Row.{Page, Entry, find}
 use Rattle.model.specs.Cache.{Cache, up, down}
 use Rattle.model.specs.Call.{Call, Outcome, peek, release, notify-dirty, notify-spilled, write, switch}
 use Rattle.model.specs.Rules.{peekFound, releaseWith, releaseFound, notified, writeFound}
@@ -50,13 +50,13 @@ pub quiet-release : (key : ℕ) → Quiet (release key)
 unfolding act
 quiet-release key = record { silent = λ c. go (find key (c .row)) c }
   where
-    less : (r : Recount) (c : Cache) → releaseWith key r c .listed ≡ []
-    less (Now state) c = refl
-    less AtLimit c = refl
+    less : (r : Recount) (p : Page) (c : Cache) → releaseWith key r p c .listed ≡ []
+    less (Now holders) p c = refl
+    less AtLimit p c = refl
 
     go : (found : Option Entry) (c : Cache) → releaseFound key found c .listed ≡ []
     go none c = refl
-    go (some e) c = less (oneHolderLess (e .page .state)) c
+    go (some e) c = less (oneHolderLess (e .page .state)) (e .page) c
 
 pub quiet-write : (key : ℕ) (state : PageRecord) → Quiet (write key state)
 unfolding act

@@ -1,13 +1,11 @@
 -- Rule 9: a call that passes its tests does what the rule says of the entry that the search found, or of none.
 use mathlib.Core.Path.{_≡_, refl, sym, ap, _∙_, subst}
-use mathlib.Core.Bool.{Bool, true, false, cond}
+use mathlib.Core.Bool.{Bool, true, false}
 use mathlib.Core.List.{List}
 use mathlib.Core.Option.{Option, none, some}
-use Prim.Native.Nat.{ℕ, _+_, _-_, _≤_, _<_}
-use native.Mathlib.Omega.{arith}
-use lib.Dec.{ltb}
+use Prim.Native.Nat.{ℕ, _≤_, _<_}
 use lib.ListN.{length, getD}
-use Rattle.page.specs.Record.{allFlags, holdersMax, stale, withHolders, oneHolderMore, oneHolderLess}
+use Rattle.page.specs.Record.{allFlags, stale, withHolders, oneHolderMore, oneHolderLess}
 use Rattle.page.specs.declared.cache.PageCache.{PageCache}
 use Rattle.page.specs.declared.entry.PageCacheEntry.{PageCacheEntry}
 use Rattle.page.specs.declared.record.PageRecord.{PageRecord}
@@ -29,22 +27,6 @@ use Rattle.answer.proofs.Steps.{step-acts, step-short-list, list-short, list-lo
 use Rattle.moves.specs.Moves.{StandsAt}
 use Rattle.deletion.proofs.Deleting.{stored-is}
 use Rattle.lookups.specs.Hit.{CanHit}
-
--- ── one holder more or less ──────────────────────────────────────────────────
--- the flags stay
-abbrev SameFlags : PageRecord → Recount → Type 0
-SameFlags p (Now state) = state .flags ≡ p .flags
-SameFlags p AtLimit = Unit {0}
-
-same-flags : (p : PageRecord) (n : ℕ) (b : Bool) → SameFlags p (cond b (Now (withHolders p n)) AtLimit)
-same-flags p n true = refl
-same-flags p n false = tt
-
-more-flags : (p : PageRecord) → SameFlags p (oneHolderMore p)
-more-flags p = same-flags p (p .holders + 1) (ltb (p .holders) holdersMax)
-
-less-flags : (p : PageRecord) → SameFlags p (oneHolderLess p)
-less-flags p = same-flags p (p .holders - 1) (ltb 0 (p .holders))
 
 -- ── by what was found ────────────────────────────────────────────────────────
 module _ (key : ℕ) (c : Cache) {found : Option Entry} (is : find key (c .row) ≡ found) where
@@ -81,17 +63,9 @@ module _ {m : Memory} {head : PageCache} {c : Cache} {key s : ℕ} {e : Entry} (
   can-hit = record { by-key = m .by-key; by-handle = m .by-handle; marks = m .marks; cache = c; key = key; entry = e; holds = H; stands = at; loaded = loaded }
 
   -- the record with another number of holders is as good as the one that was loaded
-  recount-good : {r : Recount} {state : PageRecord} → SameFlags (stored .page) r → r ≡ Now state → state .flags ≤ allFlags
-  recount-good same is =
-      let kept = subst (SameFlags (stored .page)) is same in
-      let good = subst (λ (x : Entry). x .page .state .flags ≤ allFlags) (sym (stored-is H at loaded)) (found-good H key (at .found) (at .slot) .flags) in
-      omega (arith, kept, good)
-
-  pub more-good : {r : Recount} {state : PageRecord} → r ≡ oneHolderMore (stored .page) → r ≡ Now state → state .flags ≤ allFlags
-  more-good counted is = recount-good (rw counted (more-flags (stored .page))) is
-
-  pub less-good : {r : Recount} {state : PageRecord} → r ≡ oneHolderLess (stored .page) → r ≡ Now state → state .flags ≤ allFlags
-  less-good counted is = recount-good (rw counted (less-flags (stored .page))) is
+  pub recount-good : {holders : ℕ} {state : PageRecord} → state ≡ withHolders (stored .page) holders → state .flags ≤ allFlags
+  recount-good written =
+      rw written (subst (λ (x : Entry). x .page .state .flags ≤ allFlags) (sym (stored-is H at loaded)) (found-good H key (at .found) (at .slot) .flags))
 
   module _ (asked : Bool) {r : Recount} (counted : r ≡ oneHolderMore (stored .page)) where
     hit-comes : {m′ : Memory} {a : Answered} → Follows (hitWith key r asked (seen s stored .page) c) m′ a → Follows (hit key asked (e .page) c) m′ a
@@ -102,28 +76,28 @@ module _ {m : Memory} {head : PageCache} {c : Cache} {key s : ℕ} {e : Entry} (
     pub hit-limit : r ≡ AtLimit → Follows (hit key asked (e .page) c) m (plainly HolderLimit head)
     hit-limit is = hit-comes (rw is (plain-follows HolderLimit H))
 
-    module _ {state : PageRecord} (is : r ≡ Now state) {m′ : Memory} where
+    module _ {holders : ℕ} (is : r ≡ Now holders) {state : PageRecord} (written : state ≡ withHolders (stored .page) holders) {m′ : Memory} where
       pub hit-seen : asked ≡ false → Holds m′ head (rewrite key state c) → Follows (hit key asked (e .page) c) m′ (plainly (Done (stored .handle .0)) head)
-      hit-seen unasked held = hit-comes (rw (is, unasked) (plain-follows (Done (stored .handle .0)) held))
+      hit-seen unasked held = hit-comes (rw (is, unasked, sym written) (plain-follows (Done (stored .handle .0)) held))
 
       pub hit-touched : asked ≡ true → Holds m′ head (touch key (rewrite key state c))
           → Follows (hit key asked (e .page) c) m′ (plainly (Done (stored .handle .0)) head)
-      hit-touched told held = hit-comes (rw (is, told) (touching-follows (plain-follows (Done (stored .handle .0)) held)))
+      hit-touched told held = hit-comes (rw (is, told, sym written) (touching-follows (plain-follows (Done (stored .handle .0)) held)))
 
   -- ── release ────────────────────────────────────────────────────────────────
   module _ {r : Recount} (counted : r ≡ oneHolderLess (stored .page)) where
-    release-comes : {m′ : Memory} {a : Answered} → Follows (releaseWith key r c) m′ a → Follows (step (release key) c) m′ a
+    release-comes : {m′ : Memory} {a : Answered} → Follows (releaseWith key r (seen s stored .page) c) m′ a → Follows (step (release key) c) m′ a
     release-comes {m′} {a} f =
         follows-as (release-found key c (at .found))
         (subst (λ (x : Entry). Follows (releaseFound key (some x) c) m′ a) (stored-is H at loaded)
-        (subst (λ (x : Recount). Follows (releaseWith key x c) m′ a) counted f))
+        (subst (λ (x : Recount). Follows (releaseWith key x (seen s stored .page) c) m′ a) counted f))
 
     pub release-limit : r ≡ AtLimit → Follows (step (release key) c) m (plainly HolderLimit head)
     release-limit is = release-comes (rw is (plain-follows HolderLimit H))
 
-    pub release-done : {state : PageRecord} {m′ : Memory} → r ≡ Now state → Holds m′ head (rewrite key state c)
-        → Follows (step (release key) c) m′ (plainly (Done 0) head)
-    release-done is left = release-comes (rw is (plain-follows (Done 0) left))
+    pub release-done : {holders : ℕ} {state : PageRecord} {m′ : Memory} → r ≡ Now holders → state ≡ withHolders (stored .page) holders
+        → Holds m′ head (rewrite key state c) → Follows (step (release key) c) m′ (plainly (Done 0) head)
+    release-done is written left = release-comes (rw (is, sym written) (plain-follows (Done 0) left))
 
   -- ── get ────────────────────────────────────────────────────────────────────
   module _ {list : List ℕ} (long : head .held ≤ length list) {m′ : Memory} {a : Answered} where

@@ -78,10 +78,10 @@ fn hit(slots: &mut [u64], head: PageCache, s: Slot, e: PageCacheEntry, touch: bo
     requires { ⌜ CanHit (now slots) head (s .0) e ⌝ }
     ensures { λ r. ⌜ Hits (now (slots .entry)) head (s .0) touch (now (slots .exit)) r ⌝ }
 {
-    let Recount::Now(held) = e.page.one_holder_more() else {
+    let Recount::Now(holders) = e.page.one_holder_more() else {
         return Answered::plain(Answer::HolderLimit, head);
     };
-    moves::rewrite_at(slots, s, held);
+    moves::rewrite_at(slots, s, e.page.with_holders(holders));
     let found = Answered::plain(Answer::Done(e.handle.0), head);
     if !touch {
         return found;

@@ -23,9 +23,9 @@ pub fn release_page(
         return Answered::plain(Answer::Absent, head);
     };
     let e = pool::load(slots, s);
-    let Recount::Now(left) = e.page.one_holder_less() else {
+    let Recount::Now(holders) = e.page.one_holder_less() else {
         return Answered::plain(Answer::HolderLimit, head);
     };
-    moves::rewrite_at(slots, s, left);
+    moves::rewrite_at(slots, s, e.page.with_holders(holders));
     Answered::plain(Answer::Done(0), head)
 }

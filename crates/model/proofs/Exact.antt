@@ -10,7 +10,7 @@ use lib.Dec.{eqb, ltb}
 use lib.ListN.{length}
 use Rattle.page.specs.Cache.{pageOne}
 use Rattle.page.specs.Entry.{raised}
-use Rattle.page.specs.Record.{dirty, stale, deletable, oneHolderMore, oneHolderLess}
+use Rattle.page.specs.Record.{dirty, stale, deletable, withHolders, oneHolderMore, oneHolderLess}
 use Rattle.page.specs.declared.record.Deletable.{Deletable}
 use Rattle.page.specs.declared.record.Deletable.the-variants.{Yes, Locked, Dirty, Pinned}
 use Rattle.page.specs.declared.record.PageRecord.{PageRecord}
@@ -83,8 +83,8 @@ release-plain : (key : ℕ) (found : Option Entry) (c : Cache) → Plain (releas
 release-plain key none c = answered
 release-plain key (some e) c = go (oneHolderLess (e .page .state))
   where
-    go : (r : Recount) → Plain (releaseWith key r c)
-    go (Now state) = answered
+    go : (r : Recount) → Plain (releaseWith key r (e .page) c)
+    go (Now holders) = answered
     go AtLimit = answered
 
 selected-plain : (ps : List Page) (c : Cache) → Plain (selected ps c)
@@ -121,11 +121,12 @@ hit-counts : (key : ℕ) (asked : Bool) (c : Cache) (e : Entry) → Stands key (
 hit-counts key asked c e s = go (oneHolderMore (e .page .state)) asked
   where
     go : (r : Recount) (b : Bool) → Counts (hitEffectWith r b (e .page)) (c .row) (hitWith key r b (e .page) c)
-    go (Now state) true =
-        touched-counts s (hitWith key (Now state) true (e .page) c) (touched (rewritten state e)) refl
-        (stands-change key _ (rewritten state e) (stands-changed key (c .row) e s (rewritten state) (s .named)) touched) refl refl
+    go (Now holders) true =
+        let now : Entry → Entry = rewritten (withHolders (e .page .state) holders) in
+        touched-counts s (hitWith key (Now holders) true (e .page) c) (touched (now e)) refl
+        (stands-change key _ (now e) (stands-changed key (c .row) e s now (s .named)) touched) refl refl
         (record { passed = refl; falls = refl })
-    go (Now state) false = answered (c .row)
+    go (Now holders) false = answered (c .row)
     go AtLimit b = answered (c .row)
 
 lookup-counts : (key : ℕ) (found : Option Entry) (c : Cache) → find key (c .row) ≡ found

@@ -91,7 +91,7 @@ hit-holds key asked c e there = go (ltb (e .page .state .holders) holdersMax) as
     s : Stands key (c .row) e
     s = find-stands key (c .row) e there
 
-    go : (b asked : Bool) → IfDone key c (hitWith key (cond b (Now (more key c e s)) AtLimit) asked (e .page) c)
+    go : (b asked : Bool) → IfDone key c (hitWith key (cond b (Now (e .page .state .holders + 1)) AtLimit) asked (e .page) c)
     go true true done = record {
       before = e;
       after = touched (rewritten (more key c e s) e);
@@ -148,10 +148,9 @@ module _ (key : ℕ) (c : Cache) (e : Entry) (s : Stands key (c .row) e) where
   released : step (release key) (rewrite key (more key c e s) c) ≡ answer 0 0 c
   released =
       let d = rewrite key (more key c e s) c in
-      let less = withHolders (more key c e s) (n key c e s + 1 - 1) in
       release-found key d
       ∙ ap {B = Outcome} (λ (v : Option Entry). releaseFound key v d) (stands-find key _ _ (written key c e s))
-      ∙ ap {B = Outcome} (λ (b : Bool). releaseWith key (cond b (Now less) AtLimit) d) (lt-ltb 0 (n key c e s + 1) (omega arith))
+      ∙ ap {B = Outcome} (λ (b : Bool). releaseWith key (cond b (Now (n key c e s + 1 - 1)) AtLimit) (rewritten (more key c e s) e .page) d) (lt-ltb 0 (n key c e s + 1) (omega arith))
       ∙ ap {B = Outcome} (λ (row : Row). answer 0 0 (withRow row c)) (same-row key c e s)
 
 -- after a peek without a touch it leaves the cache as it was before the peek
@@ -161,7 +160,7 @@ Undone key c o = o .code ≡ 0 → step (release key) (o .cache) ≡ answer 0 0 
 pub release-undoes : (key : ℕ) (c : Cache) → step (peek key false) c .code ≡ 0 → step (release key) (step (peek key false) c .cache) ≡ answer 0 0 c
 release-undoes key c = rw (peek-found key false c) (go (find key (c .row)) refl)
   where
-    counted : (e : Entry) (s : Stands key (c .row) e) (b : Bool) → Undone key c (hitWith key (cond b (Now (more key c e s)) AtLimit) false (e .page) c)
+    counted : (e : Entry) (s : Stands key (c .row) e) (b : Bool) → Undone key c (hitWith key (cond b (Now (e .page .state .holders + 1)) AtLimit) false (e .page) c)
     counted e s true = λ done. released key c e s
     counted e s false = λ done. absurd (omega arith)
 

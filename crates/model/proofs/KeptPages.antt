@@ -16,7 +16,7 @@ use Rattle.page.specs.declared.record.Recount.the-variants.{Now, AtLimit}
 use Rattle.page.proofs.Each.{each-middle}
 use Rattle.model.specs.Row.{Page, Entry, Row, Each, find, change, without}
 use Rattle.model.specs.Sweep.{touched}
-use Rattle.model.specs.Cache.{Cache, withRow, withEstimate, withCapacity, withSpill, fresh, pageCounts, estimateMax, countIn, countOut, countOver, leave, touch, rewritten, rewrite, replaced, replacedEntry, replace}
+use Rattle.model.specs.Cache.{Cache, withRow, withEstimate, withCapacity, withSpill, fresh, pageCounts, estimateMax, countIn, countOut, countOver, leave, touch, rewritten, rewrite, heldBy, replaced, replacedEntry, replace}
 use Rattle.model.specs.Limits.{RecordInRange, EntryInRange, CacheInvariant}
 use Rattle.model.proofs.Numbers.{OtherHandle, apart-others}
 use Rattle.model.proofs.ByKey.{Stands, stands-without, stands-change, stands-own, stands-changed, find-stands, find-none, without-none}
@@ -135,34 +135,31 @@ module _ (c : Cache) (k : CacheInvariant c) (key : ℕ) (e : Entry) (s : Stands 
       change-kept (rewritten state) (c .estimate) (k .estimate) g refl refl other-handles
 
 -- ── one holder more or less ──────────────────────────────────────────────────
--- a record that may be written, if there is one
-abbrev pub Writable : Recount → Type 0
-Writable (Now state) = RecordInRange state × (state .flags ≤ allFlags)
-Writable AtLimit = Unit {0}
+-- a number that a record can count, if there is one
+abbrev pub FitsRecord : Recount → Type 0
+FitsRecord (Now holders) = holders < 2 ^ 16
+FitsRecord AtLimit = Unit {0}
 
-module _ {size : ℕ} {e : Entry} (g : EntryInRange size e) where
-  recounted : (n : ℕ) → n < 2 ^ 16 → Writable (Now (withHolders (e .page .state) n))
-  recounted n small = (record { pins = g .fit .pins; holders = small; cells = g .fit .cells; frame = g .fit .frame }, g .flags)
+pub more-fits : (p : PageRecord) → FitsRecord (oneHolderMore p)
+more-fits p = go (ltb (p .holders) holdersMax) refl
+  where
+    go : (b : Bool) → ltb (p .holders) holdersMax ≡ b → FitsRecord (cond b (Now (p .holders + 1)) AtLimit)
+    go true q = omega (arith, ltb-true (p .holders) holdersMax q)
+    go false q = tt
 
-  pub more-writable : Writable (oneHolderMore (e .page .state))
-  more-writable = go (ltb n holdersMax) refl
-    where
-      n : ℕ
-      n = e .page .state .holders
+pub less-fits : (p : PageRecord) → RecordInRange p → FitsRecord (oneHolderLess p)
+less-fits p fit = go (ltb 0 (p .holders))
+  where
+    go : (b : Bool) → FitsRecord (cond b (Now (p .holders - 1)) AtLimit)
+    go true = omega (arith, fit .holders)
+    go false = tt
 
-      go : (b : Bool) → ltb n holdersMax ≡ b → Writable (cond b (Now (withHolders (e .page .state) (n + 1))) AtLimit)
-      go true q = recounted (n + 1) (omega (arith, ltb-true n holdersMax q))
-      go false q = tt
-
-  pub less-writable : Writable (oneHolderLess (e .page .state))
-  less-writable = go (ltb 0 n)
-    where
-      n : ℕ
-      n = e .page .state .holders
-
-      go : (b : Bool) → Writable (cond b (Now (withHolders (e .page .state) (n - 1))) AtLimit)
-      go true = recounted (n - 1) (omega (arith, g .fit .holders))
-      go false = tt
+pub held-kept : (c : Cache) → CacheInvariant c → (key : ℕ) (e : Entry) → Stands key (c .row) e → (holders : ℕ) → holders < 2 ^ 16
+    → CacheInvariant (heldBy key holders (e .page) c)
+held-kept c k key e s holders small =
+    let g : EntryInRange (c .size) e = stands-good c k key e s in
+    rewrite-kept c k key e s (withHolders (e .page .state) holders) (g .flags)
+    (record { pins = g .fit .pins; holders = small; cells = g .fit .cells; frame = g .fit .frame })
 
 -- another page in its place, with a handle that no other page has
 replace-kept : (c : Cache) → CacheInvariant c → (e : Entry) (s : Stands (e .page .key) (c .row) e) (handle : ℕ) (state : PageRecord)

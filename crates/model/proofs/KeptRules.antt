@@ -11,12 +11,12 @@ use lib.Dec.{eqb}
 use lib.ListN.{length, length-append, length-map, length-take}
 use borrow.Author.Tests.{ltb-false}
 use Rattle.page.specs.Cache.{pageOne}
-use Rattle.page.specs.Record.{allFlags, dirty, stale, oneHolderMore, oneHolderLess}
+use Rattle.page.specs.Record.{allFlags, dirty, stale, withHolders, oneHolderMore, oneHolderLess}
 use Rattle.page.specs.declared.record.PageRecord.{PageRecord}
 use Rattle.page.specs.declared.record.Recount.{Recount}
 use Rattle.page.specs.declared.record.Recount.the-variants.{Now, AtLimit}
 use Rattle.model.specs.Row.{Page, Entry, Row, find, byKey, those}
-use Rattle.model.specs.Cache.{Cache, heldIn, withCapacity, withSpill, fresh, estimateMax, up, down, leave, rewritten, rewrite}
+use Rattle.model.specs.Cache.{Cache, heldIn, withCapacity, withSpill, fresh, estimateMax, up, down, leave, rewritten, rewrite, heldBy}
 use Rattle.model.specs.Call.{Call, create, insert, lookup, peek, release, delete, resize, truncate, remove-frames, clear, notify-dirty, notify-spilled, write, spill, evict-one, switch, Outcome, answer}
 use Rattle.model.specs.Rooms.{Room, sweepOf, evicted, enough, sweeping, evictTo, following}
 use Rattle.model.specs.Rules.{deleting, hitWith, hit, lookupFound, peekFound, releaseWith, releaseFound, deleteFound, onResize, deleteEach, onClear, emptied, clearUnless, notified, writeFound, evictFrom}
@@ -29,7 +29,7 @@ use Rattle.model.proofs.KeptOrder.{by-key-length, walk-length}
 use Rattle.model.proofs.KeptRows.{kept-fits, fits-kept}
 use Rattle.model.proofs.KeptRooms.{Makes, evict-makes, evict-one-makes}
 use Rattle.model.proofs.KeptSize.{evictions-size}
-use Rattle.model.proofs.KeptPages.{fresh-kept, capacity-kept, switch-kept, leave-kept, without-held, stands-good, touch-kept, rewrite-kept, Writable, more-writable, less-writable}
+use Rattle.model.proofs.KeptPages.{fresh-kept, capacity-kept, switch-kept, leave-kept, without-held, stands-good, touch-kept, rewrite-kept, FitsRecord, more-fits, less-fits, held-kept}
 use Rattle.model.proofs.KeptTests.{Passes}
 use Rattle.model.proofs.KeptLeaves.{Leaves, leaves-same, leaves-done, leaves-listing, leaves-evicted}
 use Rattle.model.proofs.KeptInsertion.{insert-leaves}
@@ -56,18 +56,17 @@ module _ {given : Type 0} (c : Cache) (k : CacheInvariant c) where
   delete-found-leaves key none q = leaves-same c 0 0 k
   delete-found-leaves key (some e) q = delete-leaves key 0 (omega arith) e (find-stands key (c .row) e q)
 
-  -- the record is written if there is one, and after it a hit may touch the page
+  -- the page has the holders that could be counted, and after that a hit may touch it
   hit-leaves : (key : ℕ) (asked : Bool) (e : Entry) → Stands key (c .row) e → Leaves c (heldIn c) given (hit key asked (e .page) c)
-  hit-leaves key asked e s = go (oneHolderMore (e .page .state)) asked (more-writable (stands-good c k key e s))
+  hit-leaves key asked e s = go (oneHolderMore (e .page .state)) asked (more-fits (e .page .state))
     where
-      written : (state : PageRecord) → Writable (Now state) → CacheInvariant (rewrite key state c)
-      written state may = rewrite-kept c k key e s state (may .1) (may .0)
-
-      go : (r : Recount) (b : Bool) → Writable r → Leaves c (heldIn c) given (hitWith key r b (e .page) c)
-      go (Now state) true may = leaves-done c _ (inl refl) (omega arith)
-          (λ _. touch-kept (rewrite key state c) (written state may) key (rewritten state e) (stands-changed key (c .row) e s (rewritten state) (s .named)))
-      go (Now state) false may = leaves-done c _ (inl refl) (omega arith) (λ _. written state may)
-      go AtLimit b may = leaves-same c 20 0 k
+      go : (r : Recount) (b : Bool) → FitsRecord r → Leaves c (heldIn c) given (hitWith key r b (e .page) c)
+      go (Now holders) true small =
+          let now : Entry → Entry = rewritten (withHolders (e .page .state) holders) in
+          leaves-done c _ (inl refl) (omega arith)
+          (λ _. touch-kept (heldBy key holders (e .page) c) (held-kept c k key e s holders small) key (now e) (stands-changed key (c .row) e s now (s .named)))
+      go (Now holders) false small = leaves-done c _ (inl refl) (omega arith) (λ _. held-kept c k key e s holders small)
+      go AtLimit b small = leaves-same c 20 0 k
 
   lookup-leaves : (key : ℕ) (v : Option Entry) → find key (c .row) ≡ v → Leaves c (heldIn c) given (lookupFound key v c)
   lookup-leaves key none q = leaves-same c 4 0 k
@@ -83,14 +82,14 @@ module _ {given : Type 0} (c : Cache) (k : CacheInvariant c) where
 
   release-leaves : (key : ℕ) (v : Option Entry) → find key (c .row) ≡ v → Leaves c (heldIn c) given (releaseFound key v c)
   release-leaves key none q = leaves-same c 4 0 k
-  release-leaves key (some e) q = go (oneHolderLess (e .page .state)) (less-writable (stands-good c k key e s))
+  release-leaves key (some e) q = go (oneHolderLess (e .page .state)) (less-fits (e .page .state) (stands-good c k key e s .fit))
     where
       s : Stands key (c .row) e
       s = find-stands key (c .row) e q
 
-      go : (r : Recount) → Writable r → Leaves c (heldIn c) given (releaseWith key r c)
-      go (Now state) may = leaves-done c _ (inl refl) (omega arith) (λ _. rewrite-kept c k key e s state (may .1) (may .0))
-      go AtLimit may = leaves-same c 20 0 k
+      go : (r : Recount) → FitsRecord r → Leaves c (heldIn c) given (releaseWith key r (e .page) c)
+      go (Now holders) small = leaves-done c _ (inl refl) (omega arith) (λ _. held-kept c k key e s holders small)
+      go AtLimit small = leaves-same c 20 0 k
 
   -- ── evictions, asked for ───────────────────────────────────────────────────
   resize-leaves : (capacity : ℕ) → capacity ≤ c .size → Leaves c (heldIn c) given (onResize capacity c)

@@ -72,8 +72,8 @@ module _ (key handle : ℕ) (state : PageRecord) where
 
 -- ── the other rules ──────────────────────────────────────────────────────────
 hit-size : (key : ℕ) (r : Recount) (asked : Bool) (p : Page) (c : Cache) → SameSize c (hitWith key r asked p c)
-hit-size key (Now state) true p c = refl
-hit-size key (Now state) false p c = refl
+hit-size key (Now holders) true p c = refl
+hit-size key (Now holders) false p c = refl
 hit-size key AtLimit asked p c = refl
 
 lookup-size : (key : ℕ) (v : Option Entry) (c : Cache) → SameSize c (lookupFound key v c)
@@ -89,8 +89,8 @@ release-size : (key : ℕ) (v : Option Entry) (c : Cache) → SameSize c (releas
 release-size key none c = refl
 release-size key (some e) c = go (oneHolderLess (e .page .state))
   where
-    go : (r : Recount) → SameSize c (releaseWith key r c)
-    go (Now state) = refl
+    go : (r : Recount) → SameSize c (releaseWith key r (e .page) c)
+    go (Now holders) = refl
     go AtLimit = refl
 
 delete-size : (v : Option Entry) (c : Cache) → SameSize c (deleteFound v c)

@@ -7,7 +7,7 @@ use Prim.Native.Nat.{ℕ, zero, suc, _+_, _-_, _≤_}
 use native.Mathlib.Omega.{arith}
 use lib.Dec.{eqb, ltb}
 use Rattle.page.specs.Cache.{pageOne}
-use Rattle.page.specs.Record.{dirty, stale, deletable, oneHolderMore, oneHolderLess}
+use Rattle.page.specs.Record.{dirty, stale, deletable, withHolders, oneHolderMore, oneHolderLess}
 use Rattle.page.specs.declared.record.Deletable.{Deletable}
 use Rattle.page.specs.declared.record.Deletable.the-variants.{Yes, Locked, Dirty, Pinned}
 use Rattle.page.specs.declared.record.PageRecord.{PageRecord}
@@ -111,10 +111,10 @@ hit-balanced : (key : ℕ) (asked : Bool) (p : Page) (c : Cache) → Balanced (c
 hit-balanced key asked p c = go (oneHolderMore (p .state)) asked
   where
     go : (r : Recount) (b : Bool) → Balanced (c .row) (hitWith key r b p c)
-    go (Now state) true =
-        let held : Row = change key (rewritten state) (c .row) in
-        touch-pays (omega (arith, touch-adds key held, rewrite-adds key state (c .row)))
-    go (Now state) false = fewer-uses (rewrite-adds key state (c .row))
+    go (Now holders) true =
+        let state : PageRecord = withHolders (p .state) holders in
+        touch-pays (omega (arith, touch-adds key (change key (rewritten state) (c .row)), rewrite-adds key state (c .row)))
+    go (Now holders) false = fewer-uses (rewrite-adds key (withHolders (p .state) holders) (c .row))
     go AtLimit b = still
 
 -- ── rules 5, 6 and 7: insertion ──────────────────────────────────────────────
@@ -164,8 +164,8 @@ release-balanced : (key : ℕ) (found : Option Entry) (c : Cache) → Balanced (
 release-balanced key none c = still
 release-balanced key (some e) c = go (oneHolderLess (e .page .state))
   where
-    go : (r : Recount) → Balanced (c .row) (releaseWith key r c)
-    go (Now state) = fewer-uses (rewrite-adds key state (c .row))
+    go : (r : Recount) → Balanced (c .row) (releaseWith key r (e .page) c)
+    go (Now holders) = fewer-uses (rewrite-adds key (withHolders (e .page .state) holders) (c .row))
     go AtLimit = still
 
 -- ── rule 10: resize ──────────────────────────────────────────────────────────

@@ -5,6 +5,7 @@ use Prim.Native.Nat.{ℕ, zero, suc, _+_, _-_, min}
 use lib.Dec.{eqb}
 use lib.ListN.{length}
 use Rattle.page.specs.Cache.{mayGo, counts}
+use Rattle.page.specs.Record.{withHolders}
 use Rattle.page.specs.declared.record.PageRecord.{PageRecord}
 use Rattle.model.specs.Row.{Page, Entry, Row, change, without}
 use Rattle.model.specs.Sweep.{touched}
@@ -106,6 +107,10 @@ rewritten state e = record { page = record { slot = e .page .slot; key = e .page
 
 abbrev pub rewrite : ℕ → PageRecord → Cache → Cache
 rewrite key state c = withRow (change key (rewritten state) (c .row)) c
+
+-- the page with another number of holders, and with all else of its record as it was
+abbrev pub heldBy : (key holders : ℕ) → Page → Cache → Cache
+heldBy key holders p c = rewrite key (withHolders (p .state) holders) c
 
 -- the page with another handle and record, in place
 abbrev pub replaced : ℕ → PageRecord → Page → Page

@@ -11,7 +11,7 @@ use Rattle.page.specs.declared.record.PageRecord.{PageRecord}
 use Rattle.page.specs.declared.record.Recount.{Recount}
 use Rattle.page.specs.declared.record.Recount.the-variants.{Now, AtLimit}
 use Rattle.model.specs.Row.{Page, Entry, Row, find, byKey, those}
-use Rattle.model.specs.Cache.{Cache, heldIn, withRow, withEstimate, withCapacity, up, down, newPage, enter, leave, touch, rewrite, replace}
+use Rattle.model.specs.Cache.{Cache, heldIn, withRow, withEstimate, withCapacity, up, down, newPage, enter, leave, touch, rewrite, heldBy, replace}
 use Rattle.model.specs.Call.{Insertion, plain, forced, upsert, Outcome, answer, listing, touching}
 use Rattle.model.specs.Rooms.{Room, sweepOf, evicted, enough, sweeping, evictTo, makeRoom, following}
 
@@ -78,8 +78,8 @@ module _ (key handle : ℕ) (state : PageRecord) where
 -- ── rule 9: lookup, peek and release ─────────────────────────────────────────
 -- a hit answers the page's handle and adds one holder, with a touch or without; if the record can't count one more, nothing is changed
 abbrev pub hitWith : ℕ → Recount → Bool → Page → Cache → Outcome
-hitWith key (Now state) true p c = touching (answer 0 (p .handle) (touch key (rewrite key state c)))
-hitWith key (Now state) false p c = answer 0 (p .handle) (rewrite key state c)
+hitWith key (Now holders) true p c = touching (answer 0 (p .handle) (touch key (heldBy key holders p c)))
+hitWith key (Now holders) false p c = answer 0 (p .handle) (heldBy key holders p c)
 hitWith key AtLimit touches p c = answer 20 0 c
 
 abbrev pub hit : ℕ → Bool → Page → Cache → Outcome
@@ -102,13 +102,13 @@ abbrev pub onPeek : ℕ → Bool → Cache → Outcome
 onPeek key asked c = peekFound key asked (find key (c .row)) c
 
 -- the page has one holder less, whatever else its record says; if there is none, nothing is changed
-abbrev pub releaseWith : ℕ → Recount → Cache → Outcome
-releaseWith key (Now state) c = answer 0 0 (rewrite key state c)
-releaseWith key AtLimit c = answer 20 0 c
+abbrev pub releaseWith : ℕ → Recount → Page → Cache → Outcome
+releaseWith key (Now holders) p c = answer 0 0 (heldBy key holders p c)
+releaseWith key AtLimit p c = answer 20 0 c
 
 abbrev pub releaseFound : ℕ → Option Entry → Cache → Outcome
 releaseFound key none c = answer 4 0 c
-releaseFound key (some e) c = releaseWith key (oneHolderLess (e .page .state)) c
+releaseFound key (some e) c = releaseWith key (oneHolderLess (e .page .state)) (e .page) c
 
 abbrev pub onRelease : ℕ → Cache → Outcome
 onRelease key c = releaseFound key (find key (c .row)) c

@@ -66,8 +66,8 @@ insertEffect how handle (some e) c = elim (stale (e .page .state)) [
 
 -- rule 9. A hit touches its page if it is to, unless the page can't have one holder more
 abbrev pub hitEffectWith : Recount → Bool → Page → Effect
-hitEffectWith (Now state) true p = touches p
-hitEffectWith (Now state) false p = neither
+hitEffectWith (Now holders) true p = touches p
+hitEffectWith (Now holders) false p = neither
 hitEffectWith AtLimit asked p = neither
 
 abbrev pub hitEffect : Bool → Page → Effect

@@ -48,12 +48,12 @@ holdersMax = 65535
 abbrev pub withHolders : PageRecord → ℕ → PageRecord
 withHolders p n = record { flags = p .flags; pins = p .pins; holders = n; cells = p .cells; frame = p .frame }
 
--- rule 9: the record with one holder more, unless it has as many as it can count; and with one less, unless it has none
+-- rule 9: how many holders there are with one more, unless there are as many as a record can count; and with one less, unless there is none
 abbrev pub oneHolderMore : PageRecord → Recount
-oneHolderMore p = cond (ltb (p .holders) holdersMax) (Now (withHolders p (p .holders + 1))) AtLimit
+oneHolderMore p = cond (ltb (p .holders) holdersMax) (Now (p .holders + 1)) AtLimit
 
 abbrev pub oneHolderLess : PageRecord → Recount
-oneHolderLess p = cond (ltb 0 (p .holders)) (Now (withHolders p (p .holders - 1))) AtLimit
+oneHolderLess p = cond (ltb 0 (p .holders)) (Now (p .holders - 1)) AtLimit
 
 -- ── what the rules ask ───────────────────────────────────────────────────────
 -- neither loaded nor locked

@@ -4,7 +4,7 @@
 // Tests are joined by `&` and `|`, not by `&&` and `||`: each is a load and a mask, and a sweep asks them of every page
 // that it passes, where one test without branches costs less than several with.
 ghost use mathlib.Core.Path.{_≡_};
-ghost use Rattle.page.specs.Record.{loaded, locked, dirty, spilled, tagged, pinned, held, stale, cleanOrSpilled, deletable, oneHolderMore, oneHolderLess};
+ghost use Rattle.page.specs.Record.{loaded, locked, dirty, spilled, tagged, pinned, held, stale, cleanOrSpilled, deletable, oneHolderMore, oneHolderLess, withHolders};
 
 pub struct PageRecord {
     // A sum of the flags below, 0 to 31 in a good record.
@@ -27,9 +27,9 @@ pub enum Deletable {
     Pinned,
 }
 
-// The record with another number of holders, or that there is no such number.
+// The number of holders after one came or went, or that there is no such number.
 pub enum Recount {
-    Now(PageRecord),
+    Now(u16),
     AtLimit,
 }
 
@@ -90,26 +90,31 @@ impl PageRecord {
         self.holders != 0
     }
 
-    // The record for one who holds the page from now on.
-    pub fn one_holder_more(mut self) -> Recount
+    // How many hold the page if one more does.
+    pub fn one_holder_more(self) -> Recount
         ensures { λ r. ⌜ r ≡ oneHolderMore self ⌝ }
     {
         if self.holders < Self::MAX_HOLDERS {
-            self.holders += 1;
-            return Recount::Now(self);
+            return Recount::Now(self.holders + 1);
         }
         Recount::AtLimit
     }
 
-    // The record once one of its holders let go.
-    pub fn one_holder_less(mut self) -> Recount
+    // How many still hold the page if one lets go.
+    pub fn one_holder_less(self) -> Recount
         ensures { λ r. ⌜ r ≡ oneHolderLess self ⌝ }
     {
         if 0 < self.holders {
-            self.holders -= 1;
-            return Recount::Now(self);
+            return Recount::Now(self.holders - 1);
         }
         Recount::AtLimit
+    }
+
+    pub fn with_holders(mut self, holders: u16) -> Self
+        ensures { λ r. ⌜ r ≡ withHolders self holders ⌝ }
+    {
+        self.holders = holders;
+        self
     }
 
     // Neither loaded nor locked: a read that was given up leaves a page so, and no lookup may hand it out.

@@ -13,7 +13,7 @@ use Rattle.memory.proofs.Standing.{holds-by-key}
 use Rattle.answer.proofs.Steps.{follows-told}
 use Rattle.moves.specs.Moves.{KeyAt}
 use Rattle.moves.proofs.Removal.{slot-inside}
-use Rattle.lookups.proofs.Calls.{less-good, release-absent, release-limit, release-done}
+use Rattle.lookups.proofs.Calls.{recount-good, release-absent, release-limit, release-done}
 use Rattle.lookups.proofs.releasing.release_page.Statement.{statement}
 use Rattle.lookups.proofs.releasing.release_page.Tie as tie
 
@@ -50,22 +50,20 @@ returns-2 c = λ by-handle marks w H.
 
 rewrite-at-requires : tie.Need-rewrite-at-requires
 rewrite-at-requires c κs =
-    let counted = c .before .before .before .before in
+    let counted = c .before .before .before .before .before in
     let seat = counted .before .before .before .before in
     let H = start seat .pre .sound .holds in
-    record {
-      slot = inside seat;
-      flags = less-good H (found seat _ _ _ H .stands) (counted .before .load .ensures) (counted .one-holder-less .ensures) (c .before .before .left .given .1);
-    }
+    record { slot = inside seat; flags = recount-good H (found seat _ _ _ H .stands) (counted .before .load .ensures) (c .with-holders .ensures) }
 
 returns-3 : tie.Need-returns-3
 returns-3 c = λ by-handle marks w H.
     let written = c .before .before .before in
-    let taken = written .before .before .before in
+    let taken = written .before .before .before .before in
     let counted = taken .before .before in
     let at = found (counted .before .before .before .before) by-handle marks w H .stands in
     follows-told (c .plain3 .ensures)
-    (release-done H at (counted .before .load .ensures) (counted .one-holder-less .ensures) (taken .left .given .1) (written .rewrite-at .ensures _ _ _ _ w _ _ H at))
+    (release-done H at (counted .before .load .ensures) (counted .one-holder-less .ensures) (taken .holders .given .1) (written .before .with-holders .ensures)
+    (written .rewrite-at .ensures _ _ _ _ w _ _ H at))
 
 pub release-page-spec : {M : Type 1} → statement M
 release-page-spec =
@@ -77,6 +75,7 @@ release-page-spec =
     load-requires
     (λ c κs. search needs) (λ c. search needs) (λ c. search needs) (λ c κs. search needs) (λ c. search needs)
     returns-2
+    (λ c κs. search needs)
     rewrite-at-requires
     (λ c κs. search needs) (λ c. search needs)
     returns-3)
