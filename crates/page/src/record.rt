@@ -110,11 +110,18 @@ impl PageRecord {
         Recount::AtLimit
     }
 
-    pub fn with_holders(mut self, holders: u16) -> Self
+    // The record with another number of holders. It is made field by field, and so in registers: a copy of the record that is changed then
+    // goes through memory, on every hit.
+    pub fn with_holders(self, holders: u16) -> Self
         ensures { λ r. ⌜ r ≡ withHolders self holders ⌝ }
     {
-        self.holders = holders;
-        self
+        Self {
+            flags: self.flags,
+            pins: self.pins,
+            holders,
+            cells: self.cells,
+            frame: self.frame,
+        }
     }
 
     // Neither loaded nor locked: a read that was given up leaves a page so, and no lookup may hand it out.
