@@ -4,7 +4,7 @@ ghost use Rattle.answer.specs.Answer.{refused_as};
 
 use page::{Deletable, PageCacheKey};
 
-#[derive(Drop)]
+#[derive(Clone, Copy)]
 pub enum Answer {
     // 0. Done, with the handle that was found or replaced, the number selected, or else 0.
     Done(u32),

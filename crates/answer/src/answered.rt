@@ -5,7 +5,7 @@ ghost use Rattle.answer.specs.Answer.{plainly};
 use crate::answer::Answer;
 use page::PageCache;
 
-#[derive(Drop)]
+#[derive(Clone, Copy)]
 pub struct Answered {
     pub answer: Answer,
     // Pages passed, over all sweeps of the call.

@@ -6,6 +6,8 @@
 //
 // specs/Answer.antt gives 01's number and value for each case, and says what it means that a call came to an outcome of
 // the model. specs/Parts.antt is the contract of calls that are lent two parts of the memory.
+#![tactic(auto)]
+
 mod answer;
 mod answered;
 mod numbers;

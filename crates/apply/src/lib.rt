@@ -5,6 +5,8 @@
 // and alters nothing; a creation does what `Creates` says; a call does what `Called` says, which is 1 and nothing altered on
 // memory that is not sound, and the model's step on memory that is. `Applied` is deterministic (`applied_same` in
 // proofs/Same.antt).
+#![tactic(auto)]
+
 ghost use Rattle.pool.specs.Decides.{Decides};
 ghost use Rattle.memory.specs.Memory.{memories};
 ghost use Rattle.contract.specs.Called.{lent};

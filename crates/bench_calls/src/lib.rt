@@ -4,6 +4,8 @@
 // `pc_bench_run` asks nothing of what it is lent: memory that is not sound is answered with 1 and a head of another length with
 // 16, and nothing is done. Its contract says no more than that. Each record is carried out by `dispatch`, whose contract says what it
 // does, and that the memory stays sound for the next one.
+#![tactic(auto)]
+
 ghost use Rattle.memory.specs.Memory.{memory, memories};
 ghost use Rattle.memory.specs.Holds.{Sound};
 

@@ -2,6 +2,8 @@
 //
 // `page_bench_check` asks nothing of what it is lent: an answer of another length than 2 numbers is answered with 1, and then nothing
 // is written. Its contract says nothing: what a check says is stated in crate `btree_check`.
+#![tactic(auto)]
+
 ghost use Rattle.std.specs.Prelude.{◌≡◌, length};
 
 use btree_check::{Checked, Fault, check};

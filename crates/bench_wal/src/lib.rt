@@ -3,6 +3,8 @@
 // `wal_bench_scan` asks nothing of what it is lent: a log whose header is refused is answered with the header's fault, 1 to 5, an
 // answer of another length than 7 numbers with 6, and then nothing is written. Its contract says nothing: what a scan reads is
 // stated in crate `wal`.
+#![tactic(auto)]
+
 ghost use Rattle.std.specs.Prelude.{◌≡◌, length};
 
 use wal::{Commit, Fault, Scanned, Summary, scan};

@@ -6,6 +6,8 @@
 //
 // Callers may rely on `check` for any image of any length, any page number and any sizes: it says yes exactly if all the rules hold
 // that specs/Rules.antt of crate btree_format lists, and else which is the first that fails and where.
+#![tactic(auto)]
+
 ghost use Rattle.btree_format.specs.Fields.{page};
 ghost use Rattle.btree_format.specs.Rules.{Says};
 ghost use Rattle.btree_check.specs.Begun.{whole, Begun};

@@ -1,7 +1,7 @@
 // What a check answers.
 
 // Where the first fault of some kind stands.
-#[derive(Drop)]
+#[derive(Clone, Copy)]
 pub enum Place {
     Nowhere,
     At(usize),
@@ -9,7 +9,7 @@ pub enum Place {
 
 // The rules, in the document's field order, each with the offset in the page of the field that breaks it. The sizes are arguments,
 // so their rules have no offset.
-#[derive(Drop)]
+#[derive(Clone, Copy)]
 pub enum Fault {
     // The image has another length than the page size.
     Length,
@@ -29,7 +29,7 @@ pub enum Fault {
     CellPointer(usize),
 }
 
-#[derive(Drop)]
+#[derive(Clone, Copy)]
 pub enum Checked {
     Yes,
     // The first rule that fails.

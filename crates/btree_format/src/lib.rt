@@ -8,6 +8,8 @@
 //     the header    | type 1 | first freeblock 2 | cells 2 | content start 2 | fragmented bytes 1 | right-most pointer 4, interior only |
 //
 // What the rules are is stated in specs/Rules.antt; crates freeblocks, cell_pointers and btree_check test them.
+#![tactic(auto)]
+
 mod answer;
 mod fields;
 mod magic;

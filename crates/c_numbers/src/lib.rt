@@ -11,6 +11,8 @@
 // six, with any contents. Numbers that are no head are read as a head with which no memory is sound. Callers may rely on
 // specs/Head.antt and specs/Put.antt, and on this: the hand's key in an answer is that of the first page in sweep order, if the
 // memory holds a cache (proofs/Hand.antt).
+#![tactic(auto)]
+
 mod answers;
 mod heads;
 

@@ -8,6 +8,8 @@
 // A call asks for the slots and the index by key of sound memory (specs/Parts.antt of crate answer), or for the head alone, and tests its
 // arguments itself, before the rules. Callers may rely on this: for every cache that the memory holds at entry, a call comes
 // to the outcome of the model's `step` for it. So a call that a test refuses has changed nothing.
+#![tactic(auto)]
+
 mod notices;
 mod record;
 mod spill_switch;

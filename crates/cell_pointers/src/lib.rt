@@ -1,4 +1,6 @@
 // The cell pointers of a b-tree page ("Database File Format", 1.6; document 02, item 9).
+#![tactic(auto)]
+
 ghost use Rattle.std.specs.Prelude.{ℕ, ◌+◌, ◌*◌, ◌≤◌, length};
 ghost use Rattle.btree_format.specs.Fields.{half};
 ghost use Rattle.btree_format.specs.Rules.{Finds, Inside};

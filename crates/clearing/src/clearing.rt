@@ -19,7 +19,7 @@ use creating::Created;
 use page::{PageCache, PageCacheKey, Slot};
 
 // What keeps the pages from being removed.
-#[derive(Drop)]
+#[derive(Clone, Copy)]
 enum Hindrance {
     Nothing,
     // The first dirty page by ascending key.

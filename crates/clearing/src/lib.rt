@@ -6,6 +6,8 @@
 // this: for every cache that the memory holds at entry, it comes to the outcome of the model's `step` for it. The answer, the
 // listed handles and the memory at exit are those of that outcome, and every other place of the list keeps its value. So a
 // call that is refused, for a list that is too short or for a dirty page, has changed nothing.
+#![tactic(auto)]
+
 mod clearing;
 
 pub use clearing::clear;

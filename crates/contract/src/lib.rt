@@ -7,3 +7,4 @@
 // same memory, head and list are the same outcome (proofs/Same.antt). A refusal by a test alters nothing (Refused.antt). Memory that
 // only calls have changed since its creation holds what the model's run of those calls comes to (Following.antt). Demand 3 is proved of
 // the public calls too: one eviction and the evictions of any call (specs/Eviction.antt), and the ledger of uses (specs/Ledger.antt).
+#![tactic(auto)]

@@ -8,7 +8,7 @@ use page::PageCache;
 use soundness::lengths_agree;
 
 // What came of a creation.
-#[derive(Drop)]
+#[derive(Clone, Copy)]
 pub enum Created {
     // 0. The head of a cache that holds nothing.
     Done(PageCache),

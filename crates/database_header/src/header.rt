@@ -6,7 +6,7 @@ use btree_format::{Place, first_unlike, half_at, is_usable};
 use page_size::is_page_size;
 
 // What the header says of every page.
-#[derive(Drop)]
+#[derive(Clone, Copy)]
 pub struct Database {
     // In bytes: a power of two from 512 to 65,536, if `open` gave it.
     pub page_size: u32,
@@ -15,7 +15,7 @@ pub struct Database {
 }
 
 // What can be wrong with a header, in the order in which it is looked at.
-#[derive(Drop)]
+#[derive(Clone, Copy)]
 pub enum Fault {
     // Fewer than 100 bytes.
     Length,
@@ -26,7 +26,7 @@ pub enum Fault {
     UsableSize,
 }
 
-#[derive(Drop)]
+#[derive(Clone, Copy)]
 pub enum Opened {
     // The first fault.
     Refused(Fault),

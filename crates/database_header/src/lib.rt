@@ -7,6 +7,8 @@
 //
 // Callers may rely on `open` for any bytes of any length: it answers what `Opens` (specs/Header.antt) says. Only what the checks of
 // pages need is read: the other fields may hold anything.
+#![tactic(auto)]
+
 mod header;
 
 pub use header::{Database, Fault, HEADER_LENGTH, Opened, open};

@@ -15,7 +15,7 @@ use answer::{Answer, Answered};
 use moves::Seat;
 use page::{Deletable, PageCache, PageCacheKey, Slot};
 
-#[derive(Drop)]
+#[derive(Clone, Copy)]
 pub enum Deletion {
     // The page is gone. The head is the cache's from now on.
     Deleted(PageCache),

@@ -8,6 +8,8 @@
 // every cache that the memory holds at entry, it comes to the outcome of the model's `step`. The answer, the listed handle
 // and the memory at exit are those of that outcome; so a call that a test refuses has changed nothing. The other two ask for
 // a page at the slot and a place for its handle, and come to the model's `deleting`. A refused deletion changes nothing.
+#![tactic(auto)]
+
 mod deletion;
 
 pub use deletion::{Deletion, delete, delete_at, delete_page};

@@ -6,6 +6,8 @@
 // Callers see to it that the memory is sound if the operation is a call, 1 to 17 (`Runnable`, specs/Runs.antt): one test may
 // stand before many records. They may rely on `Ran`: a call comes to the model's step, a creation to what `Creates` says, and
 // an operation above 17 is answered with 17 and alters nothing.
+#![tactic(auto)]
+
 mod creation;
 mod operations;
 

@@ -7,7 +7,7 @@ ghost use Rattle.eviction.specs.Evict.{Occupied, EvictionOf};
 use crate::sweeping::sweep;
 use page::{PageCache, PageHandle};
 
-#[derive(Drop)]
+#[derive(Clone, Copy)]
 pub enum Eviction {
     // The page with this handle is gone, after `passed` pages were passed. The head is the cache's from now on.
     Took {

@@ -21,6 +21,8 @@
 //                      (`evicted_is_the_sweep`, proofs/Step.antt)
 //     evict_to         the model's `evict_to`, and make_room_for its `make_room` (specs/Room.antt). The handles follow those
 //                      that the list has already, and every other place of it keeps its value
+#![tactic(auto)]
+
 mod evicting;
 mod making_room;
 mod sweeping;

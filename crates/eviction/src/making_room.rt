@@ -8,7 +8,7 @@ ghost use Rattle.eviction.specs.Room.{ReadyToEvict, Made};
 use crate::evicting::{Eviction, evict_one};
 use page::PageCache;
 
-#[derive(Drop)]
+#[derive(Clone, Copy)]
 pub struct Room {
     // Whether there is no room, because no page may go or the capacity is 0. What went before is gone all the same.
     pub full: bool,

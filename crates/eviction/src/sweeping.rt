@@ -9,13 +9,13 @@ use page::{PageCache, Slot};
 const ROUNDS: u64 = PageCache::REF_MAX as u64 + 1;
 
 // What comes of a look: the page is taken, or it is passed and the slot after it is next.
-#[derive(Drop)]
+#[derive(Clone, Copy)]
 enum Look {
     Takes,
     Passes(Slot),
 }
 
-#[derive(Drop)]
+#[derive(Clone, Copy)]
 pub struct Swept {
     // Whether there is a page to take.
     pub found: bool,

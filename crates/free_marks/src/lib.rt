@@ -2,6 +2,8 @@
 //
 // Callers may rely on the contracts, which speak of `bit_at`, the mark of a slot (specs/Marks.antt): a mark that is set or cleared
 // leaves the others alone, `lowest_free` gives the lowest-numbered slot that is marked, and `count_free` how many are.
+#![tactic(auto)]
+
 mod marks;
 
 pub use marks::{count_free, is_free, lowest_free, mark_free, mark_held};

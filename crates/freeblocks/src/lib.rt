@@ -4,6 +4,8 @@
 //
 // Callers may rely on `first_bad` for any bytes of the page: a chain is bad at the first link that goes back, or to where no block may
 // stand. The walk ends, since each block lies after the end of the one before.
+#![tactic(auto)]
+
 ghost use Rattle.btree_format.specs.Rules.{Chain};
 ghost use Rattle.freeblocks.specs.Chained.{Linked};
 

@@ -5,6 +5,8 @@
 //
 // Callers may rely on this: if the file can't be opened the reason has been written to standard error, and a read that failed is
 // not taken for the input's end.
+#![tactic(auto)]
+
 mod opening;
 mod reading;
 

@@ -1,7 +1,7 @@
 // The file that an argument names.
 ghost use Rattle.std.specs.Prelude.{◌≤◌, length};
 
-#[derive(Drop)]
+#[derive(Clone, Copy)]
 pub struct File {
     // Below 0 if the file can't be read. The reason has been written then.
     pub fd: i32,

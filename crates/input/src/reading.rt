@@ -2,7 +2,7 @@
 ghost use Rattle.std.specs.Prelude.{◌≤◌, length};
 
 // What was read.
-#[derive(Drop)]
+#[derive(Clone, Copy)]
 pub struct Filled {
     // The number of bytes, fewer than asked for if the input ends or a read fails.
     pub count: usize,

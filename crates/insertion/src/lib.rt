@@ -16,6 +16,8 @@
 //
 // The three calls ask for sound memory and leave it sound. Callers may rely on each being the model's step: its answer, the
 // pages passed, the handles listed and the cache that the memory holds afterwards.
+#![tactic(auto)]
+
 mod absent;
 mod by_key;
 mod calls;

@@ -9,7 +9,7 @@ ghost use Rattle.insertion.specs.Mode.{replaces, goes_in, turned_away};
 use answer::Answer;
 use page::{PageCacheKey, PageHandle, PageRecord};
 
-#[derive(Drop)]
+#[derive(Clone, Copy)]
 pub struct NewPage {
     // The page's key.
     pub key: PageCacheKey,
@@ -20,7 +20,7 @@ pub struct NewPage {
     pub mode: InsertMode,
 }
 
-#[derive(Drop)]
+#[derive(Clone, Copy)]
 pub enum InsertMode {
     // The page goes in only if there is room or room can be made.
     Plain,

@@ -15,6 +15,8 @@
 // their list. No function here changes the memory, and places of the list past the pages keep their values. What is said of
 // the two forms is said once, of a `Form` (specs/Listing.antt). The contracts of `list_numbers` and `list_pages` are
 // deterministic (proofs/Outcomes.antt).
+#![tactic(auto)]
+
 mod listed;
 mod numbers;
 mod records;

@@ -6,7 +6,7 @@ ghost use Rattle.listing.specs.Listing.{ring_page_at};
 use page::{PageCacheKey, PageHandle, PageRecord, Slot};
 use pool::load;
 
-#[derive(Drop)]
+#[derive(Clone, Copy)]
 pub struct ListedPage {
     pub key: PageCacheKey,
     pub handle: PageHandle,
@@ -16,7 +16,7 @@ pub struct ListedPage {
 }
 
 // A page and its place in the ring.
-#[derive(Drop)]
+#[derive(Clone, Copy)]
 pub struct RingPage {
     pub page: ListedPage,
     // The slot that a sweep comes to after it.

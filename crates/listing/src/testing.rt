@@ -6,7 +6,7 @@ use page::PageCache;
 use soundness::is_sound;
 
 // What came of a listing.
-#[derive(Drop)]
+#[derive(Clone, Copy)]
 pub enum Listing {
     // 0. Done, with the number of pages listed.
     Done(u32),
@@ -18,7 +18,7 @@ pub enum Listing {
 
 // The answer, and how many pages to list. For a refused listing that is 0, so that `count` pages can be listed without asking
 // whether it was refused.
-#[derive(Drop)]
+#[derive(Clone, Copy)]
 pub struct Admission {
     pub answer: Listing,
     pub count: usize,

@@ -9,6 +9,8 @@
 // they are lent (specs/Parts.antt of crate answer). Callers may rely on this: for every cache that the memory holds at entry, a call
 // comes to the outcome of the model's `step` for it. The answer, the listed handle and the memory at exit are those of that outcome; so a
 // call that a test refuses has changed nothing.
+#![tactic(auto)]
+
 mod lookup;
 mod releasing;
 

@@ -41,3 +41,4 @@
 //     specs/Memory.antt    the lent memory as one value
 //     specs/Holds.antt     what it means that memory holds a cache
 //     specs/Walk.antt      a walk over the keys, by the index
+#![tactic(auto)]

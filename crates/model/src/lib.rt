@@ -21,3 +21,4 @@
 //     Examples.antt   01's sweeps to check by hand, and an example of each call and answer, as a table
 //
 // proofs/ has the theorems.
+#![tactic(auto)]

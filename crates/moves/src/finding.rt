@@ -10,7 +10,7 @@ use page::{PageCache, PageCacheKey, PageHandle, Slot};
 use sorted_index::{By, Spot};
 
 // Where a key stands: at the slot of its page, or it is absent and has a gap.
-#[derive(Drop)]
+#[derive(Clone, Copy)]
 pub enum Seat {
     At(Slot),
     Absent(usize),
@@ -30,7 +30,7 @@ pub fn seat_of(by_key: &[u32], slots: &[u64], held: u32, key: PageCacheKey) -> S
 }
 
 // Where a handle stands, seen from a key: under another key; under this one, with the slot of its page; or nowhere, and it has a gap.
-#[derive(Drop)]
+#[derive(Clone, Copy)]
 pub enum HandleSeat {
     Elsewhere,
     UnderKey(Slot),
@@ -60,7 +60,7 @@ pub fn seat_of_handle(
 }
 
 // The gaps of a key and of a handle.
-#[derive(Drop)]
+#[derive(Clone, Copy)]
 pub struct Gaps {
     pub key: usize,
     pub handle: usize,

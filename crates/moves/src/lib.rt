@@ -21,6 +21,8 @@
 //
 // No move tests anything that a rule asks. Whether the page may be deleted, whether there is room, whether the handle is
 // free: the calls have asked before.
+#![tactic(auto)]
+
 mod changing;
 mod estimate;
 mod finding;

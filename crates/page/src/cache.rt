@@ -5,7 +5,7 @@ ghost use Rattle.page.specs.Cache.{created, threshold, page_one, may_go, counts,
 use crate::names::{PageCacheKey, Slot};
 use crate::record::PageRecord;
 
-#[derive(Drop)]
+#[derive(Clone, Copy)]
 pub struct PageCache {
     // The most pages to hold. Forced insertion may exceed it.
     pub capacity: u32,

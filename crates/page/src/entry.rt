@@ -6,7 +6,7 @@ use crate::cache::PageCache;
 use crate::names::{PageCacheKey, PageHandle, Slot};
 use crate::record::PageRecord;
 
-#[derive(Drop)]
+#[derive(Clone, Copy)]
 pub struct PageCacheEntry {
     pub key: PageCacheKey,
     pub handle: PageHandle,

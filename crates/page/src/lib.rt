@@ -8,6 +8,8 @@
 //
 // Callers may rely on each function's `ensures`, which cites the definitions in specs/. No function asks anything of
 // its arguments.
+#![tactic(auto)]
+
 mod cache;
 mod entry;
 mod names;

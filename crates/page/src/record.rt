@@ -6,7 +6,7 @@
 ghost use Rattle.std.specs.Prelude.{◌≡◌};
 ghost use Rattle.page.specs.Record.{loaded, locked, dirty, spilled, tagged, pinned, held, stale, clean_or_spilled, deletable, one_holder_more, one_holder_less, with_holders};
 
-#[derive(Drop)]
+#[derive(Clone, Copy)]
 pub struct PageRecord {
     // A sum of the flags below, 0 to 31 in a good record.
     pub flags: u8,
@@ -21,7 +21,7 @@ pub struct PageRecord {
 }
 
 // Whether the page may be deleted or, if not, the first reason against it.
-#[derive(Drop)]
+#[derive(Clone, Copy)]
 pub enum Deletable {
     Yes,
     Locked,
@@ -30,7 +30,7 @@ pub enum Deletable {
 }
 
 // The number of holders after one came or went, or that there is no such number.
-#[derive(Drop)]
+#[derive(Clone, Copy)]
 pub enum Recount {
     Now(u16),
     AtLimit,

@@ -16,6 +16,8 @@
 //
 // Each call tests the memory, refuses with 1 if it is not sound, and otherwise calls the function of the same name that
 // stands on sound memory. What callers may rely on is `Called`, in crate contract.
+#![tactic(auto)]
+
 mod capacity;
 mod deleting;
 mod dirty;

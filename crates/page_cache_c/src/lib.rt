@@ -11,6 +11,8 @@
 // with document 01's code. A head that is not of 5 numbers, or an answer that is not of 6, is 16 for every function, and nothing else
 // is looked at. Numbers that are no head are read as a head with which no memory is sound, so that a call answers 1 and a creation
 // can still be made.
+#![tactic(auto)]
+
 ghost use Rattle.memory.specs.Memory.{memories};
 ghost use Rattle.contract.specs.Called.{lent};
 ghost use Rattle.page_cache_c.specs.Exports.{Makes, Tests, Lists, Applies};

@@ -7,7 +7,7 @@ use text::{ROOM, say};
 const LAST_PAGE: u32 = 4294967294;
 
 // The pages to check, as far as the file has them.
-#[derive(Drop)]
+#[derive(Clone, Copy)]
 pub struct Pages {
     // From 1 on; 0 if the words are bad, and then a message has been written.
     pub first: u32,

@@ -6,7 +6,7 @@ use database_header::Database;
 use text::{ROOM, put, put_named, put_words};
 
 // The pages that were checked.
-#[derive(Drop)]
+#[derive(Clone, Copy)]
 pub struct Totals {
     pub yes: u64,
     pub no: u64,

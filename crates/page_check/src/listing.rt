@@ -13,7 +13,7 @@ use text::{ROOM, next_place, write_first};
 pub const PIECE: usize = 65536;
 
 // What was found at the next place of the file.
-#[derive(Drop)]
+#[derive(Clone, Copy)]
 enum NextPage {
     // What is said of the page, and how many of its bytes are there.
     Page(Checked, usize),

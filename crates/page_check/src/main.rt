@@ -21,6 +21,8 @@
 // and writes, one page at a time, so that a database of any length takes the same memory. A page that the file's end cuts off fails by
 // its length, and the offset is that of the cut. Overflow, freelist, pointer-map and lock-byte pages are no b-tree pages, and are
 // checked like the others. Why there is nothing to write, or no more, is a line on standard error.
+#![tactic(auto)]
+
 mod asking;
 mod checking;
 mod lines;

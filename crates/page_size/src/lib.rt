@@ -1,6 +1,8 @@
 // The sizes that a page of a database can have ("Database File Format", 1.2).
 //
 // A log's header and a database's both store one; each reads it in its own form and asks here.
+#![tactic(auto)]
+
 ghost use Rattle.std.specs.Prelude.{◌≡◌};
 ghost use Rattle.page_size.specs.PageSize.{is_page_size};
 

@@ -3,6 +3,8 @@
 //
 // Callers may rely on the contracts of `load` and `store`, which speak of `entries`, the list of the entries that a list of words
 // holds: a store alters one entry and keeps the others.
+#![tactic(auto)]
+
 mod slots;
 
 pub use slots::{blank_entry, is_blank, load, store};

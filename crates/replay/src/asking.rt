@@ -1,5 +1,5 @@
 // What the arguments ask for.
-#[derive(Drop)]
+#[derive(Clone, Copy)]
 pub enum Asked {
     // A line for each record.
     Answers,

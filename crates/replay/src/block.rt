@@ -14,7 +14,7 @@ const BLOCK: usize = 65536;
 const RECORD: usize = 32;
 
 // What a block leaves.
-#[derive(Drop)]
+#[derive(Clone, Copy)]
 pub struct Left {
     pub head: PageCache,
     // Whether there may be another block.
@@ -22,7 +22,7 @@ pub struct Left {
 }
 
 // What the records of a block leave.
-#[derive(Drop)]
+#[derive(Clone, Copy)]
 struct Done {
     head: PageCache,
     // The place in the output after their lines.

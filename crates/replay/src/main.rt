@@ -12,6 +12,8 @@
 //
 // What a record does is the contract of `apply`. What is here reads and writes. A short last record writes `bad`, and
 // nothing follows. The program ends where the input ends, or where no more can be read or written.
+#![tactic(auto)]
+
 mod asking;
 mod block;
 mod line;

@@ -6,6 +6,8 @@
 // Callers may rely on `decode` for any bytes of any length: it answers what `decoded` (specs/Fields.antt) says. Bytes are bad
 // if there are not 32 of them, if the option is above 1, or if the tail is not zero. The operation is handed on untested: crate
 // dispatch refuses those above 17. specs/Request.antt says what a record asks for.
+#![tactic(auto)]
+
 mod number;
 mod record;
 

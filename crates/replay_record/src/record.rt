@@ -5,7 +5,7 @@ ghost use Rattle.replay_record.specs.Fields.{bad, fields, decoded};
 use crate::number::number_at;
 use page::{PageCacheKey, PageHandle, PageRecord};
 
-#[derive(Drop)]
+#[derive(Clone, Copy)]
 pub struct Record {
     // Which call it is: 0 create to 17 release. No call has a number above 17.
     pub operation: u8,
@@ -18,7 +18,7 @@ pub struct Record {
     pub number: u64,
 }
 
-#[derive(Drop)]
+#[derive(Clone, Copy)]
 pub enum Decoded {
     Bad,
     Good(Record),

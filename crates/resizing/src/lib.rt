@@ -8,6 +8,8 @@
 // answer, the pages passed, the listed handles and the memory at exit are those of that outcome, and every other place of the
 // list keeps its value. So a call that a test refuses has changed nothing. If a resize needs another eviction and no page may
 // go, the evictions before that stand and are listed, and the capacity stays.
+#![tactic(auto)]
+
 mod evicting;
 mod resizing;
 

@@ -14,6 +14,8 @@
 // names, and all else is 0. `enlist` and `unlist` keep it, and so does every change to a slot that is no seat or that
 // leaves the seat's name alone (proofs/Listed.antt, proofs/Names.antt). The seats and their names determine the whole order: two
 // orders of one length that list the same seats by the same names are equal (proofs/Once.antt).
+#![tactic(auto)]
+
 mod enlisting;
 mod search;
 mod shift;

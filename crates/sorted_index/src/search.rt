@@ -8,14 +8,14 @@ ghost use Rattle.sorted_index.specs.Listed.{GapFor};
 use page::Slot;
 
 // The name that an index goes by.
-#[derive(Drop)]
+#[derive(Clone, Copy)]
 pub enum By {
     Key,
     Handle,
 }
 
 // Where a name stands in an index, or where it would go: before that place stand the lower names, from there on the higher.
-#[derive(Drop)]
+#[derive(Clone, Copy)]
 pub enum Spot {
     Here(usize),
     Gap(usize),

@@ -14,6 +14,8 @@
 // are unmarked, each of the three has exactly the unmarked ones.
 //
 // Callers may rely on this: `is_sound` answers yes exactly if the memory is sound (crate memory).
+#![tactic(auto)]
+
 mod index;
 mod lengths;
 mod marks;

@@ -8,6 +8,8 @@
 //
 // Callers lend two parts of a sound memory (`PartsOfSound`, specs/Parts.antt). They may rely on the answers being the model's for
 // every cache that the memory holds; `check_spill` makes the test of its list too, and comes to the model's step.
+#![tactic(auto)]
+
 mod need;
 mod selection;
 mod walk;

@@ -4,6 +4,8 @@
 //     writing.rt   the output written out, when it is full and at the end; messages, at once
 //
 // A function that puts something answers the place after it. Its caller makes sure that there is room.
+#![tactic(auto)]
+
 mod putting;
 mod writing;
 

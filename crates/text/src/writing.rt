@@ -7,7 +7,7 @@ use crate::putting::ROOM;
 const FULL: usize = 100000;
 
 // A place in the output, and whether the output can still be written.
-#[derive(Drop)]
+#[derive(Clone, Copy)]
 pub struct Place {
     pub at: usize,
     pub open: bool,

@@ -21,7 +21,7 @@ use page::{PageCache, PageCacheEntry, Slot};
 use sorted_index::{By, Spot};
 
 // Which pages go.
-#[derive(Drop)]
+#[derive(Clone, Copy)]
 enum Which {
     // Those with a key above the limit.
     KeysAbove(u64),

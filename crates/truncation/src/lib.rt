@@ -14,6 +14,8 @@
 // the listed handles and the memory at exit are those of that outcome, and every other place of the list keeps its value. So a
 // call with a list that is too short has changed nothing; and where a page refuses to go, the deletions before that stand and
 // are listed.
+#![tactic(auto)]
+
 mod deletions;
 
 pub use deletions::{delete_clean_pages_after_wal_frame, truncate};

@@ -7,7 +7,7 @@ use wal_checksum::number_at;
 use wal_frames::{Commit, Summary};
 use wal_header::{HEADER_LENGTH, Header};
 
-#[derive(Drop)]
+#[derive(Clone, Copy)]
 pub enum FoundFrame {
     // The summary is of another log: its frames reach past the end of this one.
     OtherLog,

@@ -9,6 +9,8 @@
 // Crate wal_header has the header, wal_frame a frame, wal_frames the scan; what callers need of them is exported here too. Any
 // bytes of any length get the answer that specs/ gives them, and nothing is read outside them. What the answers mean for the
 // summary that a scan gave is stated in proofs/Placed.antt, proofs/LastCommit.antt and proofs/Reader.antt.
+#![tactic(auto)]
+
 mod find;
 mod list;
 

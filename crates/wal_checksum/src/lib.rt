@@ -5,6 +5,8 @@
 //
 // Whoever reads a log and whoever writes one call the same `checksum`. It equals `checksum` of specs/Checksum.antt, the document's
 // loop, from any place, over any number of 8-byte pairs, from any sums.
+#![tactic(auto)]
+
 mod number;
 mod sums;
 

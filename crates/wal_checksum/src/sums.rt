@@ -6,7 +6,7 @@ use crate::number::{number_at, word_at};
 use std::num::wrapping_add_u32;
 
 // The running sums. Those of a frame go on from those of the frame before.
-#[derive(Drop)]
+#[derive(Clone, Copy)]
 pub struct Sums {
     // The sum of all words but the last, each with a Fibonacci number as its weight.
     pub s0: u32,

@@ -5,7 +5,7 @@ ghost use Rattle.wal_frame.specs.Frame.{frame_length, salted, sums_after, frame_
 use wal_checksum::{Sums, checksum, number_at, same, sums_at};
 use wal_header::Header;
 
-#[derive(Drop)]
+#[derive(Clone, Copy)]
 pub struct Frame {
     // The number of the page that it holds.
     pub page: u32,
@@ -15,7 +15,7 @@ pub struct Frame {
     pub sums: Sums,
 }
 
-#[derive(Drop)]
+#[derive(Clone, Copy)]
 pub enum Next {
     // No valid frame: the log ends here.
     End,

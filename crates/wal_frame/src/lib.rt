@@ -6,6 +6,8 @@
 //
 // Callers may rely on `next_frame` for any bytes of any length, and for any header: it answers what `next_at` (specs/Frame.antt)
 // says.
+#![tactic(auto)]
+
 mod frame;
 
 pub use frame::{Frame, Next, frame_at, length, next_at, next_frame};

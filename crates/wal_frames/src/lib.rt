@@ -5,6 +5,8 @@
 //
 // Callers may rely on `scan` for any bytes of any length: it answers what `scanned` (specs/Scan.antt) says. What follows for logs
 // that are cut, damaged or grown is stated in proofs/CutLog.antt, over specs/Cut.antt.
+#![tactic(auto)]
+
 mod scanning;
 
 pub use scanning::{Commit, Scanned, Summary, add_frame, scan, start};

@@ -7,7 +7,7 @@ use wal_frame::{Frame, Next, next_at};
 use wal_header::{Fault, HEADER_LENGTH, Header, Opened, open};
 
 // The last commit.
-#[derive(Drop)]
+#[derive(Clone, Copy)]
 pub enum Commit {
     Nothing,
     // Its frame, from 1 on, and the database's size after it, in pages.
@@ -15,7 +15,7 @@ pub enum Commit {
 }
 
 // What was read of a log, up to its first bad frame. A writer goes on from here.
-#[derive(Drop)]
+#[derive(Clone, Copy)]
 pub struct Summary {
     pub header: Header,
     // The number of valid frames.
@@ -29,14 +29,14 @@ pub struct Summary {
     pub sums: Sums,
 }
 
-#[derive(Drop)]
+#[derive(Clone, Copy)]
 pub enum Scanned {
     Unread(Fault),
     Read(Summary),
 }
 
 // The result of one look at a log: the summary with the frame that stands there, or that there is none.
-#[derive(Drop)]
+#[derive(Clone, Copy)]
 struct Step {
     summary: Summary,
     more: bool,

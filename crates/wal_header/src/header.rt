@@ -5,7 +5,7 @@ ghost use Rattle.wal_header.specs.Header.{is_magic, opened};
 use page_size::is_page_size;
 use wal_checksum::{Sums, checksum, number_at, same, sums_at};
 
-#[derive(Drop)]
+#[derive(Clone, Copy)]
 pub struct Header {
     // Whether the words that are summed are big-endian.
     pub big: bool,
@@ -21,7 +21,7 @@ pub struct Header {
 }
 
 // What can be wrong with a header, in the order in which it is looked at.
-#[derive(Drop)]
+#[derive(Clone, Copy)]
 pub enum Fault {
     // Fewer than 32 bytes.
     Length,
@@ -31,7 +31,7 @@ pub enum Fault {
     Checksum,
 }
 
-#[derive(Drop)]
+#[derive(Clone, Copy)]
 pub enum Opened {
     // The first fault.
     Refused(Fault),

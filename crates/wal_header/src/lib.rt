@@ -5,6 +5,8 @@
 //     | magic 4 | version 4 | page size 4 | checkpoint 4 | salts 4 + 4 | sums 4 + 4 |
 //
 // Callers may rely on `open` for any bytes of any length: it answers what `opened` (specs/Header.antt) says.
+#![tactic(auto)]
+
 mod header;
 
 pub use header::{Fault, HEADER_LENGTH, Header, Opened, open};

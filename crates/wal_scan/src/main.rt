@@ -17,6 +17,8 @@
 // Which frames are valid, and what is counted of them, is in the contracts of `wal_frames`. What is here reads and writes, one
 // frame at a time, so that a log of any length takes the same memory. Why there is no log, or no more of it, is a line on
 // standard error. The program ends where the valid frames end, or where no more can be read or written.
+#![tactic(auto)]
+
 mod lines;
 mod scanning;
 

@@ -17,7 +17,7 @@ const PIECE: usize = 65560;
 const LONGEST: usize = 9223372036854775807;
 
 // What was found at the next place of the log.
-#[derive(Drop)]
+#[derive(Clone, Copy)]
 enum NextFrame {
     Valid(Frame),
     End,
