@@ -1,6 +1,6 @@
 -- A ring turns, takes a slot in and lets one go: a store outside a way keeps the way, and any slot of a ring can be
 -- turned to the front, so that each change is made there.
-use mathlib.Core.Path.{◌≡◌, refl, ap, ◌∙◌}
+use mathlib.Core.Path.{◌≡◌, refl, sym, ap, ◌∙◌, subst}
 use mathlib.Core.Logic.{◌⊎◌, inl, inr, ⊎_elim, Ne-symm}
 use mathlib.Core.List.{List, [], ◌∷◌, ◌++◌, append_assoc, append-nil}
 use Prim.Native.Nat.{ℕ, ◌<◌}
@@ -140,12 +140,15 @@ module _ (n p : List ℕ) (h s : ℕ) where
         (way_next (set n s x) p h s x h r d.0 (way_next n p s x x h r o.1 w.1))),
   )
 
+  long_after : (row : List ℕ) → length (set (set n s (first row h)) h s) ≡ length n
+  long_after row = simp length-set refl
+
   linked : (row : List ℕ) → s < length n → Ring n p (h ∷ row) → Out s (h ∷ row)
       → Ring (set (set n s (first row h)) h s) (set (set p s h) (first row h) s) (h ∷ s ∷ row)
   linked row ls g o = record {
     same = simp length-set g.same;
     apart = ((Ne-symm o.0, g.apart.0), (o.1, g.apart.1));
-    inside = simp length-set (g.inside.0, (ls, g.inside.1));
+    inside = subst (λ k. Below k (h ∷ s ∷ row)) (sym (long_after row)) (g.inside.0, (ls, g.inside.1));
     round = (
       (
         get_or-set_same (set n s (first row h)) h s 0 (simp length-set g.inside.0),
@@ -181,11 +184,14 @@ module _ (n p : List ℕ) (a s : ℕ) where
         (way_next (set n a x) p s 0 x a r d.1.0 (way_next n p a x x a r d.0.1 w.1))),
   )
 
+  long_without : (rest : List ℕ) → length (set (set n a (first rest a)) s 0) ≡ length n
+  long_without rest = simp length-set refl
+
   unlinked : (rest : List ℕ) → Ring n p (a ∷ s ∷ rest) → Ring (set (set n a (first rest a)) s 0) (set (set p (first rest a) a) s 0) (a ∷ rest)
   unlinked rest g = record {
     same = simp length-set g.same;
     apart = (g.apart.0.1, g.apart.1.1);
-    inside = simp length-set (g.inside.0, g.inside.1.1);
+    inside = subst (λ k. Below k (a ∷ rest)) (sym (long_without rest)) (g.inside.0, g.inside.1.1);
     round = way_unlinked rest g.same g.apart g.inside g.round.1;
     free_next = λ k q. next_of k q (ℕ_discrete k s);
     free_prev = λ k q. prev_of k q (ℕ_discrete k s);
