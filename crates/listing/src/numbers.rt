@@ -1,7 +1,7 @@
 // The listing in numbers.
 ghost use Rattle.std.specs.Prelude.{◌≡◌, ◌+◌, ◌≤◌, length};
 ghost use Rattle.std.proofs.lemmas.List.Edits.{sets};
-ghost use Rattle.memory.specs.Memory.{memories};
+ghost use Rattle.memory.specs.Memory.{memory_of};
 ghost use Rattle.listing.specs.Listing.{in_numbers, numbers_of, CanListRow, WritesRow};
 ghost use Rattle.listing.specs.Outcome.{ListingEffect};
 
@@ -50,7 +50,7 @@ pub fn list_numbers(
     head: PageCache,
     list: &mut [u64],
 ) -> Listing
-    ensures { let m = memories slots by_key by_handle marks in ListingEffect in_numbers m.entry head list.old list.new result }
+    ensures { ListingEffect in_numbers (memory_of slots.now by_key.now by_handle.now marks.now) head list.old list.new result }
 {
     let admission = admit(slots, by_key, by_handle, marks, head, list.len() / 8);
     list_pool(slots, head.hand, admission.count, list);

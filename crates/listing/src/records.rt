@@ -1,7 +1,7 @@
 // The listing in records. The borrow checker covers no function that is lent a slice of structs, so the two here are proved
 // by a walk of their code, by hand. They do as little as they can: each page is fetched by value and stored by one assignment,
 // and the tests are made elsewhere.
-ghost use Rattle.memory.specs.Memory.{memories};
+ghost use Rattle.memory.specs.Memory.{memory_of};
 ghost use Rattle.listing.specs.Listing.{in_records, CanListRow, WritesRow};
 ghost use Rattle.listing.specs.Outcome.{ListingEffect};
 
@@ -33,7 +33,7 @@ pub fn list_pages(
     head: PageCache,
     list: &mut [ListedPage],
 ) -> Listing
-    ensures { let m = memories slots by_key by_handle marks in ListingEffect in_records m.entry head list.old list.new result }
+    ensures { ListingEffect in_records (memory_of slots.now by_key.now by_handle.now marks.now) head list.old list.new result }
 {
     let admission = admit(slots, by_key, by_handle, marks, head, list.len());
     list_records(slots, head.hand, admission.count, list);

@@ -1,5 +1,5 @@
 // Whether a listing may go ahead: the tests that come first, in document 01's order.
-ghost use Rattle.memory.specs.Memory.{memories};
+ghost use Rattle.memory.specs.Memory.{memory_of};
 ghost use Rattle.listing.specs.Outcome.{Admits};
 
 use page::PageCache;
@@ -33,7 +33,7 @@ pub fn admit(
     head: PageCache,
     room: usize,
 ) -> Admission
-    ensures { let m = memories slots by_key by_handle marks in Admits m.entry head room result }
+    ensures { Admits (memory_of slots.now by_key.now by_handle.now marks.now) head room result }
 {
     if !is_sound(slots, by_key, by_handle, marks, head) {
         return Admission {

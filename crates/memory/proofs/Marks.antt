@@ -1,6 +1,6 @@
 -- The marks of a pool whose seats are given up and taken. A mark says whether its slot is a seat, so one mark changes as one
 -- slot does; and the lowest mark that is set is the model's lowest free slot.
-use mathlib.Core.Path.{◌≡◌, refl, sym, ap, ◌∙◌}
+use mathlib.Core.Path.{◌≡◌, refl, sym, ap, ◌∙◌, subst}
 use mathlib.Core.Bool.{Bool, true, false, cond, ◌||◌, true≢false}
 use mathlib.Core.List.{List, [], ◌∷◌, ◌++◌}
 use Prim.Native.Nat.{ℕ, ◌+◌, ◌/◌, ◌≤◌, ◌<◌}
@@ -50,7 +50,7 @@ module _ {marks marks' : List ℕ} {size s : ℕ} (inside : s < size) where
   }
     where
       at : (k : ℕ) → k < size → Dec (k ≡ s) → bit_at marks' k ≡ mark_of (has k (s ∷ seats))
-      at k h (yes q) = rw q (cleared.here ∙ ap mark_of (sym (has_here s seats)))
+      at k h (yes q) = subst (λ x. bit_at marks' x ≡ mark_of (has x (s ∷ seats))) (sym q) (cleared.here ∙ ap mark_of (sym (has_here s seats)))
       at k h (no other) = cleared.others k other ∙ m.inside k h ∙ ap mark_of (sym (has_skip k s seats other))
 
 -- the mark of a slot stands in a word that is there

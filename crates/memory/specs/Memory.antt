@@ -1,6 +1,6 @@
 -- The lent memory as one value.
 use Rattle.std.specs.Prelude.{List, ℕ}
-use Rattle.std.specs.Borrow.{Bor}
+use Rattle.std.specs.Borrow.{MutBor}
 use denote.Triple.Both.{Both}
 
 pub record Memory : Type 0 where
@@ -14,9 +14,9 @@ abbrev pub memory_of : (slots by_key by_handle marks : List ℕ) → Memory
 memory_of slots by_key by_handle marks = record { slots = slots; by_key = by_key; by_handle = by_handle; marks = marks }
 
 -- ── in a contract ────────────────────────────────────────────────────────────
--- a lent slice, and one at entry and at exit
+-- a slice that is lent to be written, and one at entry and at exit
 abbrev pub Lent : Type 0
-Lent = Bor (List ℕ)
+Lent = MutBor (List ℕ)
 
 abbrev pub LentBoth : Type 0
 LentBoth = Both Lent Lent

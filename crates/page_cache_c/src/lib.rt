@@ -13,7 +13,7 @@
 // can still be made.
 #![tactic(auto)]
 
-ghost use Rattle.memory.specs.Memory.{memories};
+ghost use Rattle.memory.specs.Memory.{memory_of, memories};
 ghost use Rattle.contract.specs.Called.{lent};
 ghost use Rattle.page_cache_c.specs.Exports.{Makes, Tests, Lists, Applies};
 
@@ -63,7 +63,7 @@ pub extern "C" fn pc_test(
     marks: &[u64],
     head: &[u64],
 ) -> u32
-    ensures { let m = memories slots by_key by_handle marks in Tests m.entry head.now result }
+    ensures { Tests (memory_of slots.now by_key.now by_handle.now marks.now) head.now result }
 {
     if head.len() != HEAD {
         return BAD_LENGTHS;
@@ -85,7 +85,7 @@ pub extern "C" fn pc_list(
     head: &[u64],
     list: &mut [u64],
 ) -> u32
-    ensures { let m = memories slots by_key by_handle marks in Lists m.entry head.now list.old list.new result }
+    ensures { Lists (memory_of slots.now by_key.now by_handle.now marks.now) head.now list.old list.new result }
 {
     if head.len() != HEAD {
         return BAD_LENGTHS;

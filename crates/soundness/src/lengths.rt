@@ -1,13 +1,13 @@
 // The lengths of the lent parts, and the numbers of the head.
 ghost use Rattle.pool.specs.Decides.{Decides};
-ghost use Rattle.memory.specs.Memory.{memories};
+ghost use Rattle.memory.specs.Memory.{memory_of};
 ghost use Rattle.soundness.specs.Checks.{Agreeing, InRange};
 
 use page::PageCache;
 
 // Whether the parts have the lengths that they need for as many slots as `by_key` has places.
 pub fn lengths_agree(slots: &[u64], by_key: &[u32], by_handle: &[u32], marks: &[u64]) -> bool
-    ensures { let m = memories slots by_key by_handle marks in Decides result (Agreeing m.entry) }
+    ensures { Decides result (Agreeing (memory_of slots.now by_key.now by_handle.now marks.now)) }
 {
     let size = by_key.len();
     if size > PageCache::MAX_SLOTS as usize {

@@ -1,6 +1,6 @@
 // The soundness test.
 ghost use Rattle.pool.specs.Decides.{Decides};
-ghost use Rattle.memory.specs.Memory.{memories};
+ghost use Rattle.memory.specs.Memory.{memory_of};
 ghost use Rattle.memory.specs.Holds.{Sound};
 
 use crate::index::lists;
@@ -19,7 +19,7 @@ pub fn is_sound(
     marks: &[u64],
     head: PageCache,
 ) -> bool
-    ensures { let m = memories slots by_key by_handle marks in Decides result (Sound m.entry head) }
+    ensures { Decides result (Sound (memory_of slots.now by_key.now by_handle.now marks.now) head) }
 {
     if !lengths_agree(slots, by_key, by_handle, marks) {
         return false;
