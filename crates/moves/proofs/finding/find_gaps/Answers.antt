@@ -1,0 +1,6 @@
+-- Both names are new, so each search ends in a gap.
+use Rattle.moves.proofs.Search.{gaps_found}
+use Rattle.moves.proofs.finding.find_gaps.Goals as goal
+
+pub returns : goal.returns
+returns c = gaps_found c.requires.holds c.requires.new c.gap.ensures c.gap-2.ensures
