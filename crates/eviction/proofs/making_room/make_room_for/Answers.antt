@@ -1,0 +1,10 @@
+-- Capacity 0 has no room to make and changes nothing; any other lets one page less stay.
+use Rattle.std.proofs.Common.{true, false}
+use Rattle.eviction.proofs.OneMore.{made_none, made_one}
+use Rattle.eviction.proofs.making_room.make_room_for.Goals as goal
+
+pub returns-then-head-eq0 : goal.returns-then-head-eq0
+returns-then-head-eq0 c = λ w H. made_none H c.if-head-eq0.true
+
+pub returns : goal.returns
+returns c = λ w H. made_one H c.if-head-eq0.false (c.evict_to.ensures w H)
