@@ -1,0 +1,14 @@
+-- A list that is too short is refused, and otherwise the rule follows.
+use Rattle.std.proofs.Common.{true, false}
+use mathlib.Core.Path.{refl}
+use Rattle.model.specs.Call.{evict_one}
+use Rattle.model.specs.Step.{act}
+use Rattle.answer.proofs.Tested.{comes_short, comes_acts}
+use Rattle.resizing.proofs.evicting.evict.Goals as goal
+
+pub returns-then-list-head : goal.returns-then-list-head
+returns-then-list-head c = λ w H. rw c.plain.ensures (comes_short (evict_one _) H refl c.if-list-head.true)
+
+pub returns : goal.returns
+unfolding act
+returns c = λ w H. comes_acts (evict_one _) H refl c.if-list-head.false (c.evict_listed.ensures w H)

@@ -1,0 +1,10 @@
+-- The same capacity changes nothing, and another one is set if the evictions were enough.
+use Rattle.std.proofs.Common.{false}
+use Rattle.resizing.proofs.Resized.{few_listed, resize_other}
+use Rattle.resizing.proofs.resizing.resize_within.Goals as goal
+
+pub resized-requires : goal.resized-requires
+resized-requires c = few_listed _ c.requires.ready.sound.holds (c.evict_to-room.ensures _ c.requires.ready.sound.holds)
+
+pub returns : goal.returns
+returns c = λ w H. rw c.resized.ensures (resize_other _ H (c.evict_to-room.ensures w H) c.if-capacity-head.false (rw c.evict_to-room.auto.by_key c.requires.within))
