@@ -1,0 +1,21 @@
+-- The search finds the page, which goes by rule 8, or none.
+use mathlib.Core.Path.{refl}
+use Rattle.answer.proofs.Steps.{comes_told}
+use Rattle.deletion.proofs.Deleting.{can_delete, delete_short, delete_absent, delete_there}
+use Rattle.deletion.proofs.deletion.delete.Goals as goal
+
+pub returns-then-list-head : goal.returns-then-list-head
+returns-then-list-head c = λ w H. comes_told c.plain.ensures (delete_short H _ c.if-list-head.true)
+
+pub returns-in_default : goal.returns-in_default
+returns-in_default c = λ w H.
+    comes_told c.plain-in_default.ensures
+    (delete_absent H _ c.if-list-head.false (c.in_default.ensures.seat _ _ _ w H refl))
+
+pub delete_at-requires : goal.delete_at-requires
+delete_at-requires c = can_delete c.requires.holds (c.in-At.ensures.seat _ _ _ _ c.requires.holds refl) c.if-list-head.false
+
+pub returns : goal.returns
+returns c = λ w H.
+    let at = (c.in-At.ensures.seat _ _ _ w H refl).stands in
+    delete_there H _ c.if-list-head.false at (c.delete_at.ensures w _ _ H at)

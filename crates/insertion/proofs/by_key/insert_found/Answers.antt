@@ -1,0 +1,16 @@
+-- The record that is loaded is the page's, and it is stale or not.
+use Rattle.std.proofs.Common.{true, false}
+use Rattle.insertion.proofs.Keys.{found_inside, found_replaceable, found_stale, found_present}
+use Rattle.insertion.proofs.by_key.insert_found.Goals as goal
+
+pub load-requires : goal.load-requires
+load-requires c = found_inside c.requires
+
+pub returns-then-is_stale : goal.returns-then-is_stale
+returns-then-is_stale c = found_stale c.load.ensures c.is_stale.ensures c.if-is_stale.true c.insert_stale.ensures
+
+pub present-requires : goal.present-requires
+present-requires c = found_replaceable c.requires
+
+pub returns : goal.returns
+returns c = found_present c.load.ensures c.is_stale.ensures c.if-is_stale.false c.present.ensures
