@@ -1,6 +1,5 @@
 -- The sweep finds a page, which is the first of the row that it leaves, and that page is removed; or it finds none, and has
 -- come round to the hand.
-use Rattle.std.proofs.Common.{true, false}
 use borrow.Author.Tests.{not-true, not-false}
 use Rattle.memory.specs.Memory.{memory}
 use Rattle.eviction.proofs.Turning.{sweepable, Ended, end_inside, holds_turned}
@@ -16,16 +15,16 @@ returns-then-not-swept c = λ w H.
     full_refuses H (record { some_held = c.requires.some_held; long = c.sweep-swept.auto.slots; swept = c.sweep-swept.ensures }) (not-true _ c.if-not-swept.true)
 
 pub load-requires : goal.load-requires
-load-requires c = 
+load-requires c =
     end_inside c.requires.sound.holds (record { some_held = c.requires.some_held; long = c.sweep-swept.auto.slots; swept = c.sweep-swept.ensures })
 
 pub remove_at_slot-left-requires : goal.remove_at_slot-left-requires
-remove_at_slot-left-requires c = 
+remove_at_slot-left-requires c =
     end_removable c.requires.sound.holds (record { some_held = c.requires.some_held; long = c.sweep-swept.auto.slots; swept = c.sweep-swept.ensures })
 
 pub returns : goal.returns
 returns c = λ w H.
     let d : Ended (memory c.args.slots c.args.by_key c.args.by_handle c.args.marks) c.args.head c.sweep-swept.new.slots c.sweep-swept.result
-        = record { some_held = c.requires.some_held; long = c.sweep-swept.auto.slots; swept = c.sweep-swept.ensures } in
+    = record { some_held = c.requires.some_held; long = c.sweep-swept.auto.slots; swept = c.sweep-swept.ensures } in
     found_takes H d (not-false _ c.if-not-swept.false) c.load.ensures
     (c.remove_at_slot-left.ensures _ _ _ (holds_turned H d) (end_stands H d))

@@ -5,7 +5,7 @@ use Rattle.eviction.proofs.EvictLoop.{EvictLoop}
 use Rattle.eviction.proofs.making_room.evict_to.Given as goal
 
 abbrev pub invariant-loop-left : goal.invariant-loop-left
-invariant-loop-left l = 
+invariant-loop-left l =
     EvictLoop (memory_of l.initial.slots l.initial.by_key l.initial.by_handle l.initial.marks) l.initial.left l.initial.list l.listed l.target
     (memory_of l.slots l.by_key l.by_handle l.marks) l.left l.list l.passed l.count
 

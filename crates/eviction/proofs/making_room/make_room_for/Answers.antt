@@ -1,5 +1,4 @@
 -- Capacity 0 has no room to make and changes nothing; any other lets one page less stay.
-use Rattle.std.proofs.Common.{true, false}
 use Rattle.eviction.proofs.OneMore.{made_none, made_one}
 use Rattle.eviction.proofs.making_room.make_room_for.Goals as goal
 

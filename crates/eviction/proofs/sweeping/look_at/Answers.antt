@@ -1,5 +1,4 @@
 -- A page that may not go is passed as it is, one with no use left is taken, and any other is passed and loses a use.
-use Rattle.std.proofs.Common.{true, false}
 use Rattle.eviction.proofs.Looking.{stays_passed, spent_taken, used_passed}
 use Rattle.eviction.proofs.sweeping.look_at.Goals as goal
 

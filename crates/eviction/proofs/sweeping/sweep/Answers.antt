@@ -1,6 +1,5 @@
 -- Each turn is a look: it passes the page, and the loop is one look further, or takes it. The measure is the number of looks
 -- that are left.
-use Prim.Native.Nat.{◌-◌}
 use native.Mathlib.Omega.{arith}
 use Rattle.eviction.proofs.SweepLoop.{going_start, going_inside, going_passed, going_taken, going_full}
 use Rattle.eviction.proofs.sweeping.sweep.Goals as goal

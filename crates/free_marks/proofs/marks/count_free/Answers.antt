@@ -1,6 +1,4 @@
 -- After each word the ones so far are the free slots so far.
-use Rattle.std.proofs.Common.{true, false}
-use Prim.Native.Nat.{◌-◌}
 use native.Mathlib.Omega.{arith}
 use Rattle.free_marks.proofs.Counting.{counted_none, counted_more, counted_limit, counted_all}
 use Rattle.free_marks.proofs.marks.count_free.Goals as goal

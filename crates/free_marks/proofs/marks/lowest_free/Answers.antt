@@ -1,7 +1,5 @@
 -- No word that the loop passed has a free slot, so that it can't pass the free slot that there is. The word at which it stops isn't 0,
 -- and its trailing zeros say which slot is the lowest.
-use Rattle.std.proofs.Common.{false}
-use Prim.Native.Nat.{◌-◌}
 use native.Mathlib.Omega.{arith}
 use lib.Count.{trailing_le}
 use lib.ListN.{get_or}

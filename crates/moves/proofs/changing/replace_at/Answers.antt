@@ -14,12 +14,12 @@ store-requires c = slot_inside c.requires.holds c.requires.stands
 
 pub returns : goal.returns
 returns c = λ by_key marks w key e H at free. replaced_at H at free c.requires.flags (record {
-      old = c.load-old.result;
-      estimate = c.count_over.result;
-      loaded = c.load-old.ensures;
-      handles_kept = c.relist.auto.by_handle;
-      relisted = c.relist.ensures;
-      stored = record { long = c.store.auto.slots; written = c.store.ensures };
-      counted = c.count_over.ensures;
-      head_is = refl;
-    })
+  old = c.load-old.result;
+  estimate = c.count_over.result;
+  loaded = c.load-old.ensures;
+  handles_kept = c.relist.auto.by_handle;
+  relisted = c.relist.ensures;
+  stored = record { long = c.store.auto.slots; written = c.store.ensures };
+  counted = c.count_over.ensures;
+  head_is = refl;
+})

@@ -4,6 +4,6 @@ use Rattle.moves.proofs.changing.rewrite_at.Goals as goal
 
 pub returns : goal.returns
 returns c = λ by_key by_handle marks head w key e H at. rewritten_at H at c.requires.flags (record {
-      long = c.store.auto.slots;
-      written = rw (c.store.ensures, c.load-e.ensures);
-    })
+  long = c.store.auto.slots;
+  written = rw (c.store.ensures, c.load-e.ensures);
+})

@@ -4,6 +4,6 @@ use Rattle.moves.proofs.changing.touch_at.Goals as goal
 
 pub returns : goal.returns
 returns c = λ by_key by_handle marks head w key e H at. touched_at H at (record {
-      long = c.store.auto.slots;
-      written = rw (c.store.ensures, c.bump_ref.ensures, c.load-e.ensures);
-    })
+  long = c.store.auto.slots;
+  written = rw (c.store.ensures, c.bump_ref.ensures, c.load-e.ensures);
+})

@@ -1,5 +1,4 @@
 -- The search's answer, and what it says of the row: of a handle that is found the key of its entry tells.
-use Rattle.std.proofs.Common.{true, false}
 use Rattle.pool.specs.Slots.{entries}
 use Rattle.sorted_index.specs.declared.search.By.TheVariants.{Handle}
 use Rattle.sorted_index.proofs.Names.{index_slot}
@@ -11,15 +10,15 @@ name-requires c = index_slot Handle (entries c.args.slots.now) c.requires c.in-H
 
 pub returns-then-name-key : goal.returns-then-name-key
 returns-then-name-key c = record {
-      seat = λ by_key marks head w H held. handle_elsewhere_lem H held _ _ c.in-Here.ensures c.name.ensures c.if-name-key.true;
-      gap = tt;
-    }
+  seat = λ by_key marks head w H held. handle_elsewhere_lem H held _ _ c.in-Here.ensures c.name.ensures c.if-name-key.true;
+  gap = tt;
+}
 
 pub returns-else-name-key : goal.returns-else-name-key
 returns-else-name-key c = record {
-      seat = λ by_key marks head w H held. handle_here H held _ _ c.in-Here.ensures c.name.ensures c.if-name-key.false;
-      gap = tt;
-    }
+  seat = λ by_key marks head w H held. handle_here H held _ _ c.in-Here.ensures c.name.ensures c.if-name-key.false;
+  gap = tt;
+}
 
 pub returns-in-Gap : goal.returns-in-Gap
 returns-in-Gap c = record { seat = λ by_key marks head w H held. handle_new H held c.in-Gap.ensures; gap = c.in-Gap.ensures }

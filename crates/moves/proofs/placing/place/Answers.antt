@@ -23,18 +23,18 @@ head_with-requires c = held_small c.requires.holds c.requires.room
 
 pub returns : goal.returns
 returns c = λ w H names. placed H c.requires.right c.requires.flags (record {
-      slot = c.lowest_free-s.result;
-      estimate = c.count_in-estimate.result;
-      entry = c.new-e.result;
-      slots_kept = c.seat.auto.slots;
-      keys_kept = c.enlist_at.auto.order;
-      handles_kept = c.enlist_at-2.auto.order;
-      lowest = c.lowest_free-s.ensures;
-      taken = c.mark_held.ensures;
-      by_key = c.enlist_at.ensures;
-      by_handle = c.enlist_at-2.ensures;
-      made = c.new-e.ensures;
-      seated = c.seat.ensures;
-      counted = c.count_in-estimate.ensures;
-      head_is = c.head_with.ensures;
-    })
+  slot = c.lowest_free-s.result;
+  estimate = c.count_in-estimate.result;
+  entry = c.new-e.result;
+  slots_kept = c.seat.auto.slots;
+  keys_kept = c.enlist_at.auto.order;
+  handles_kept = c.enlist_at-2.auto.order;
+  lowest = c.lowest_free-s.ensures;
+  taken = c.mark_held.ensures;
+  by_key = c.enlist_at.ensures;
+  by_handle = c.enlist_at-2.ensures;
+  made = c.new-e.ensures;
+  seated = c.seat.ensures;
+  counted = c.count_in-estimate.ensures;
+  head_is = c.head_with.ensures;
+})

@@ -24,17 +24,17 @@ head_without-requires c = some_held c.requires.holds c.requires.stands
 
 pub returns : goal.returns
 returns c = λ w key e H at. removed H at (record {
-      stored = c.load-e.result;
-      after = c.unlink-after.result;
-      estimate = c.count_out-estimate.result;
-      slots_kept = c.unlink-after.auto.slots;
-      keys_kept = c.unlist.auto.order;
-      handles_kept = c.unlist-2.auto.order;
-      loaded = c.load-e.ensures;
-      by_key = c.unlist.ensures;
-      by_handle = c.unlist-2.ensures;
-      unlinked = c.unlink-after.ensures;
-      freed = c.mark_free.ensures;
-      counted = c.count_out-estimate.ensures;
-      head_is = c.head_without.ensures;
-    })
+  stored = c.load-e.result;
+  after = c.unlink-after.result;
+  estimate = c.count_out-estimate.result;
+  slots_kept = c.unlink-after.auto.slots;
+  keys_kept = c.unlist.auto.order;
+  handles_kept = c.unlist-2.auto.order;
+  loaded = c.load-e.ensures;
+  by_key = c.unlist.ensures;
+  by_handle = c.unlist-2.ensures;
+  unlinked = c.unlink-after.ensures;
+  freed = c.mark_free.ensures;
+  counted = c.count_out-estimate.ensures;
+  head_is = c.head_without.ensures;
+})

@@ -1,7 +1,6 @@
 -- A slot is blank exactly if its four words are zero, since packing is a bijection.
-use Rattle.std.proofs.Common.{arith, length-set, sym}
-use Rattle.pool.specs.Slots.{decode}
-use Rattle.pool.proofs.Packing.{entries_length, entries_at, blank_tested, stored}
+use Rattle.std.proofs.Common.{arith}
+use Rattle.pool.proofs.Packing.{entries_length, blank_tested}
 use Rattle.pool.proofs.slots.is_blank.Goals as goal
 
 pub bounds-slots-at : goal.bounds-slots-at

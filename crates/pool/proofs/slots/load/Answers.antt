@@ -1,7 +1,7 @@
 -- A word is read below the length because its slot is, and its fields are those that `decode` cuts out of it.
-use Rattle.std.proofs.Common.{arith, length-set, sym}
+use Rattle.std.proofs.Common.{arith, sym}
 use Rattle.pool.specs.Slots.{decode}
-use Rattle.pool.proofs.Packing.{entries_length, entries_at, blank_tested, stored}
+use Rattle.pool.proofs.Packing.{entries_length, entries_at}
 use Rattle.pool.proofs.slots.load.Goals as goal
 
 pub bounds-slots-at : goal.bounds-slots-at

@@ -1,7 +1,6 @@
 -- The words that are stored are those of the entry, whose fields fit their places because they are numbers of their widths.
-use Rattle.std.proofs.Common.{arith, length-set, sym}
-use Rattle.pool.specs.Slots.{decode}
-use Rattle.pool.proofs.Packing.{entries_length, entries_at, blank_tested, stored}
+use Rattle.std.proofs.Common.{arith, length-set}
+use Rattle.pool.proofs.Packing.{entries_length, stored}
 use Rattle.pool.proofs.slots.store.Goals as goal
 
 pub bounds-slots-at : goal.bounds-slots-at

@@ -1,5 +1,4 @@
 -- A list that is too short is refused, and otherwise the rule follows.
-use Rattle.std.proofs.Common.{true, false}
 use mathlib.Core.Path.{refl}
 use Rattle.model.specs.Call.{evict_one}
 use Rattle.model.specs.Step.{act}

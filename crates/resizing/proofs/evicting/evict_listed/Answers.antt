@@ -1,5 +1,4 @@
 -- Each answer is one of the model's eviction.
-use Rattle.std.proofs.Common.{false}
 use native.Mathlib.Omega.{arith}
 use Rattle.resizing.proofs.Evicted.{evict_full, evict_took}
 use Rattle.resizing.proofs.evicting.evict_listed.Goals as goal

@@ -1,5 +1,4 @@
 -- A capacity above S and a list that is too short are refused, and otherwise the rule follows.
-use Rattle.std.proofs.Common.{true, false}
 use Rattle.resizing.proofs.Resized.{resize_large, resize_short, resize_acts}
 use Rattle.resizing.proofs.resizing.resize.Goals as goal
 

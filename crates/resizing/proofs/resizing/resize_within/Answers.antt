@@ -1,5 +1,4 @@
 -- The same capacity changes nothing, and another one is set if the evictions were enough.
-use Rattle.std.proofs.Common.{false}
 use Rattle.resizing.proofs.Resized.{few_listed, resize_other}
 use Rattle.resizing.proofs.resizing.resize_within.Goals as goal
 

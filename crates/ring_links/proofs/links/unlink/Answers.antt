@@ -12,6 +12,6 @@ store-requires c = rw (c.set_prev.ensures, length_prev, c.set_next.ensures, leng
 pub returns : goal.returns
 unfolding unlinked
 returns c = record {
-      out = rw (c.store.ensures, c.blank_entry-empty.ensures, c.set_prev.ensures, c.set_next.ensures, c.load-e.ensures);
-      after = rw c.load-e.ensures;
-    }
+  out = rw (c.store.ensures, c.blank_entry-empty.ensures, c.set_prev.ensures, c.set_next.ensures, c.load-e.ensures);
+  after = rw c.load-e.ensures;
+}

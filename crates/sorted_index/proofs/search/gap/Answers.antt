@@ -4,7 +4,7 @@ use Rattle.sorted_index.proofs.Listed.{hit_seat}
 use Rattle.sorted_index.proofs.search.gap.Goals as goal
 
 pub returns-in-Here : goal.returns-in-Here
-returns-in-Here c = 
+returns-in-Here c =
     record {
       place = omega (arith, c.in-Here.ensures.within);
       miss = λ seats l held absent. absurd (absent _ (hit_seat l held c.in-Here.ensures) c.in-Here.ensures.same);

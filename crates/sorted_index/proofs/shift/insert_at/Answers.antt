@@ -1,5 +1,4 @@
 -- Each turn raises one element by a place, from the last down to place `at`, where the slot then goes.
-use Prim.Native.Nat.{◌-◌}
 use borrow.Author.Rules.{rules}
 use Rattle.sorted_index.proofs.Shifting.{raising_none, raising_more, raising_put}
 use Rattle.sorted_index.proofs.shift.insert_at.Goals as goal

@@ -1,5 +1,4 @@
 -- Each turn lowers one element by a place, from the one after place `at` to the last, whose place is then zeroed.
-use Prim.Native.Nat.{◌-◌}
 use borrow.Author.Rules.{rules}
 use Rattle.sorted_index.proofs.Shifting.{lowering_none, lowering_more, lowering_put}
 use Rattle.sorted_index.proofs.shift.remove_at.Goals as goal
