@@ -10,4 +10,4 @@ mod putting;
 mod writing;
 
 pub use putting::{ROOM, put, put_named, put_next, put_number, put_words};
-pub use writing::{Place, next_place, say, write_first};
+pub use writing::{Place, next_place, say, say_failure, write_first};
