@@ -1,6 +1,7 @@
 // Which pages are asked for.
 ghost use Rattle.std.specs.Prelude.{◌≤◌};
 
+use std::env::Env;
 use text::{ROOM, say};
 
 // 'The maximum page number is 4294967294'.
@@ -15,10 +16,10 @@ pub struct Pages {
 }
 
 // All pages, or the one that the second word names.
-pub fn asked() -> Pages
+pub fn asked(env: &impl Env, stderr: &impl Print) -> Pages
     ensures { result.last ≤ 4294967294 }
 {
-    let words = os::arg_count();
+    let words = input::word_count(env, 4);
     if words == 2 {
         return Pages {
             first: 1,
@@ -26,22 +27,23 @@ pub fn asked() -> Pages
         };
     }
     if words == 3 {
-        return asked_page();
+        return asked_page(env, stderr);
     }
-    say(b"usage: page_check DATABASE [PAGE]\n");
+    say(stderr, b"usage: page_check DATABASE [PAGE]\n");
     Pages { first: 0, last: 0 }
 }
 
-fn asked_page() -> Pages
+fn asked_page(env: &impl Env, stderr: &impl Print) -> Pages
     ensures { result.last ≤ 4294967294 }
 {
     let mut word = [0u8; ROOM];
-    let length = os::arg(2, &mut word);
+    // One that is too long is no number, and isn't said again.
+    let length = env.arg(2, &mut word).unwrap_or(0);
     let number = page_number(&word[..length]);
     if number == 0 {
-        say(b"page_check: bad page number: ");
-        say(&word[..length]);
-        say(b"\n");
+        say(stderr, b"page_check: bad page number: ");
+        say(stderr, &word[..length]);
+        say(stderr, b"\n");
     }
     Pages {
         first: number,

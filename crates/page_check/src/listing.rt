@@ -7,7 +7,8 @@ use crate::{lines, messages};
 use btree_check::Checked;
 use database_header::Database;
 use input::fill;
-use text::{ROOM, next_place, write_first};
+use std::io::{Error, Read};
+use text::{ROOM, next_place, say_failure, write_first};
 
 // The largest page.
 pub const PIECE: usize = 65536;
@@ -18,13 +19,21 @@ enum NextPage {
     // What is said of the page, and how many of its bytes are there.
     Page(Checked, usize),
     End,
-    // It can't be read.
-    Unread,
+    // It can't be read, and why.
+    Unread(Error),
 }
 
-// Checks the pages from the first that is asked for, at which `fd` stands. Each page's line is put as it is read, and the totals at
+// Checks the pages from the first that is asked for, at which the file stands. Each page's line is put as it is read, and the totals at
 // the end.
-pub fn check_pages(fd: i32, says: &[u8], piece: &mut [u8; PIECE], database: Database, pages: Pages)
+pub fn check_pages(
+    stdout: &impl Print,
+    stderr: &impl Print,
+    file: &mut impl Read,
+    says: &[u8],
+    piece: &mut [u8; PIECE],
+    database: Database,
+    pages: Pages,
+)
     requires page_size_bound { database.page_size ≤ 65536 }
     requires last_bound { pages.last ≤ 4294967294 }
 {
@@ -33,11 +42,11 @@ pub fn check_pages(fd: i32, says: &[u8], piece: &mut [u8; PIECE], database: Data
     let mut totals = Totals { yes: 0, no: 0 };
     let mut number = pages.first;
     while number <= pages.last {
-        let found = read_page(fd, piece, database, number);
+        let found = read_page(file, piece, database, number);
         let NextPage::Page(checked, count) = found else {
-            return finish(says, &mut out, at, pages, totals, found);
+            return finish(stdout, stderr, says, &mut out, at, pages, totals, found);
         };
-        let place = next_place(&out, at);
+        let place = next_place(stdout, &out, at);
         if !place.open {
             return;
         }
@@ -45,16 +54,25 @@ pub fn check_pages(fd: i32, says: &[u8], piece: &mut [u8; PIECE], database: Data
         totals = counted(totals, checked);
         number += 1;
     }
-    finish(says, &mut out, at, pages, totals, NextPage::End)
+    finish(
+        stdout,
+        stderr,
+        says,
+        &mut out,
+        at,
+        pages,
+        totals,
+        NextPage::End,
+    )
 }
 
-fn read_page(fd: i32, piece: &mut [u8], database: Database, number: u32) -> NextPage
+fn read_page(file: &mut impl Read, piece: &mut [u8], database: Database, number: u32) -> NextPage
     requires { database.page_size ≤ length piece.old }
 {
     let page_size = database.page_size;
-    let filled = fill(fd, piece, page_size as usize);
-    if filled.failed {
-        return NextPage::Unread;
+    let filled = fill(file, piece, page_size as usize);
+    if let Some(reason) = filled.failed {
+        return NextPage::Unread(reason);
     }
     let count = filled.count;
     if count == 0 {
@@ -82,6 +100,8 @@ fn counted(totals: Totals, checked: Checked) -> Totals
 
 // Writes out what is left of the output. A database that could not be read to its end has no totals.
 fn finish(
+    stdout: &impl Print,
+    stderr: &impl Print,
     says: &[u8],
     out: &mut [u8; ROOM],
     at: usize,
@@ -92,17 +112,16 @@ fn finish(
     requires at_bound { at ≤ 110000 }
     requires no_bound { totals.yes + totals.no ≤ 4294967295 }
 {
-    if let NextPage::Unread = found {
-        // Before anything else is called: the reason is that of the last call of the system that failed.
-        os::fail(says);
-        write_first(out, at);
+    if let NextPage::Unread(reason) = found {
+        say_failure(stderr, says, reason);
+        write_first(stdout, out, at);
         return;
     }
     if totals.yes + totals.no == 0 {
         // The file has no byte of the first page that was asked for.
-        messages::no_such_page(says, pages.first);
+        messages::no_such_page(stderr, says, pages.first);
         return;
     }
     let end = lines::put_totals(out, at, totals);
-    write_first(out, end);
+    write_first(stdout, out, end);
 }

@@ -32,18 +32,21 @@ mod messages;
 ghost use Rattle.std.specs.Prelude.{◌≤◌, length};
 
 use asking::Pages;
+use std::env::Env;
+use std::rt::Files;
 use text::{ROOM, put_words};
 
 // Where the file's name begins in a message.
 const NAME: usize = 12;
 
-fn main() {
-    let pages = asking::asked();
+fn main(rt: HostRuntime) {
+    let stderr = rt.stderr();
+    let pages = asking::asked(&rt, &stderr);
     if pages.first == 0 {
         return;
     }
     let mut says = message();
-    check_argument(&mut says, pages);
+    check_argument(&rt, &stderr, &mut says, pages);
 }
 
 // What a message begins with, and room for the file's name after it.
@@ -54,16 +57,19 @@ fn message() -> [u8; ROOM] {
 }
 
 // The database that the argument names. `says` gets its name.
-fn check_argument(says: &mut [u8], pages: Pages)
+fn check_argument(
+    rt: &(impl Env + Files + Print),
+    stderr: &impl Print,
+    says: &mut [u8],
+    pages: Pages,
+)
     requires in_bounds { 12 ≤ length says.old }
     requires le_first { 1 ≤ pages.first }
     requires last_bound { pages.last ≤ 4294967294 }
 {
-    let file = input::open_argument(says, NAME);
-    if file.fd < 0 {
-        return;
+    let named = input::open_argument(rt, stderr, says, NAME);
+    let end = named.end;
+    if let Some(mut file) = named.open {
+        checking::check(rt, stderr, &mut file, &says[..end], pages);
     }
-    let end = file.end;
-    checking::check(file.fd, &says[..end], pages);
-    libc::close(file.fd);
 }

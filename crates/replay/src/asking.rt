@@ -1,4 +1,6 @@
 // What the arguments ask for.
+use std::env::Env;
+
 #[derive(Clone, Copy)]
 pub enum Asked {
     // A line for each record.
@@ -9,8 +11,8 @@ pub enum Asked {
     Other,
 }
 
-pub fn from_arguments() -> Asked {
-    let count = os::arg_count();
+pub fn from_arguments(env: &impl Env) -> Asked {
+    let count = input::word_count(env, 3);
     if count < 2 {
         return Asked::Answers;
     }
@@ -18,7 +20,7 @@ pub fn from_arguments() -> Asked {
         return Asked::Other;
     }
     let mut word = [0u8; 8];
-    let length = os::arg(1, &mut word);
+    let length = env.arg(1, &mut word).unwrap_or(0);
     if length != 7 {
         return Asked::Other;
     }

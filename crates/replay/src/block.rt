@@ -5,7 +5,9 @@ use crate::line::put_answer;
 use crate::sizes;
 use crate::state::put_state;
 use answer::Answered;
+use input::fill;
 use page::PageCache;
+use std::io::Read;
 use text::{ROOM, next_place, put_words, write_first};
 
 // 2,048 records.
@@ -32,6 +34,8 @@ struct Done {
 
 // Reads a block and answers its records.
 pub fn replay(
+    stdin: &mut impl Read,
+    stdout: &impl Print,
     slots: &mut [u64; sizes::WORDS],
     by_key: &mut [u32; sizes::SLOTS],
     by_handle: &mut [u32; sizes::SLOTS],
@@ -42,8 +46,11 @@ pub fn replay(
     states: bool,
 ) -> Left {
     let mut block = [0u8; BLOCK];
-    let length = io::read_full(0, &mut block);
+    // A read that failed counts as the input's end.
+    let filled = fill(stdin, &mut block, BLOCK);
+    let length = filled.count;
     let done = answer_all(
+        stdout,
         &block,
         length / RECORD,
         slots,
@@ -61,7 +68,7 @@ pub fn replay(
     } else {
         put_words(out, done.at, b"bad\n")
     };
-    let written = write_first(out, end);
+    let written = write_first(stdout, out, end);
     Left {
         head: left,
         more: done.open & written & (length == BLOCK),
@@ -70,6 +77,7 @@ pub fn replay(
 
 // The first `count` records of a block.
 fn answer_all(
+    stdout: &impl Print,
     block: &[u8],
     count: usize,
     slots: &mut [u64; sizes::WORDS],
@@ -90,7 +98,7 @@ fn answer_all(
     while i < count {
         let from = RECORD * i;
         let end = from + RECORD;
-        let start = next_place(out, at);
+        let start = next_place(stdout, out, at);
         if !start.open {
             return Done {
                 head: left,

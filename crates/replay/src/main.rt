@@ -21,19 +21,19 @@ mod sizes;
 mod state;
 
 use asking::Asked;
+use std::io::Read;
 
-fn main() {
-    match asking::from_arguments() {
-        Asked::Answers => replay(false),
-        Asked::States => replay(true),
-        Asked::Other => {
-            io::write_all(2, b"usage: replay [--state] < RECORDS\n");
-        }
+fn main(rt: HostRuntime) {
+    let mut stdin = rt.stdin();
+    match asking::from_arguments(&rt) {
+        Asked::Answers => replay(&mut stdin, &rt, false),
+        Asked::States => replay(&mut stdin, &rt, true),
+        Asked::Other => text::say(&rt.stderr(), b"usage: replay [--state] < RECORDS\n"),
     }
 }
 
 // Block after block. `turns` counts down so that the loop is known to end; no input is that long.
-fn replay(states: bool) {
+fn replay(stdin: &mut impl Read, stdout: &impl Print, states: bool) {
     let mut slots = [0u64; sizes::WORDS];
     let mut by_key = [0u32; sizes::SLOTS];
     let mut by_handle = [0u32; sizes::SLOTS];
@@ -44,6 +44,8 @@ fn replay(states: bool) {
     let mut turns = u64::MAX;
     while turns > 0 {
         let left = block::replay(
+            stdin,
+            stdout,
             &mut slots,
             &mut by_key,
             &mut by_handle,

@@ -24,18 +24,21 @@ mod scanning;
 
 ghost use Rattle.std.specs.Prelude.{◌≤◌, length};
 
+use std::env::Env;
+use std::rt::Files;
 use text::{ROOM, put_words, say};
 
 // Where the file's name begins in a message.
 const NAME: usize = 10;
 
-fn main() {
-    if os::arg_count() != 2 {
-        say(b"usage: wal_scan LOG\n");
+fn main(rt: HostRuntime) {
+    let stderr = rt.stderr();
+    if input::word_count(&rt, 3) != 2 {
+        say(&stderr, b"usage: wal_scan LOG\n");
         return;
     }
     let mut says = message();
-    scan_argument(&mut says);
+    scan_argument(&rt, &stderr, &mut says);
 }
 
 // What a message begins with, and room for the file's name after it.
@@ -46,14 +49,12 @@ fn message() -> [u8; ROOM] {
 }
 
 // The file that the argument names. `says` gets its name.
-fn scan_argument(says: &mut [u8])
+fn scan_argument(rt: &(impl Env + Files + Print), stderr: &impl Print, says: &mut [u8])
     requires { 10 ≤ length says.old }
 {
-    let file = input::open_argument(says, NAME);
-    if file.fd < 0 {
-        return;
-    }
+    let file = input::open_argument(rt, stderr, says, NAME);
     let end = file.end;
-    scanning::scan(file.fd, &says[..end]);
-    libc::close(file.fd);
+    if let Some(mut log) = file.open {
+        scanning::scan(rt, stderr, &mut log, &says[..end]);
+    }
 }

@@ -4,7 +4,8 @@ ghost use Rattle.wal_frame.specs.Frame.{frame_length};
 
 use crate::lines;
 use input::fill;
-use text::{ROOM, next_place, say, write_first};
+use std::io::{Error, Read};
+use text::{ROOM, next_place, say, say_failure, write_first};
 use wal_checksum::Sums;
 use wal_frame::{Frame, Next};
 use wal_frames::Summary;
@@ -21,39 +22,46 @@ const LONGEST: usize = 9223372036854775807;
 enum NextFrame {
     Valid(Frame),
     End,
-    // It can't be read.
-    Unread,
+    // It can't be read, and why.
+    Unread(Error),
 }
 
-// Lists the log that is open at `fd`. `says` is what a message begins with.
-pub fn scan(fd: i32, says: &[u8]) {
+// Lists the log. `says` is what a message begins with.
+pub fn scan(stdout: &impl Print, stderr: &impl Print, log: &mut impl Read, says: &[u8]) {
     let mut piece = [0u8; PIECE];
-    let filled = fill(fd, &mut piece, HEADER_LENGTH);
-    if filled.failed {
-        os::fail(says);
+    let filled = fill(log, &mut piece, HEADER_LENGTH);
+    if let Some(reason) = filled.failed {
+        say_failure(stderr, says, reason);
         return;
     }
     let count = filled.count;
     match wal_header::open(&piece[..count]) {
-        Opened::Refused(fault) => refuse(says, fault),
-        Opened::Log(header) => scan_frames(fd, says, &mut piece, header),
+        Opened::Refused(fault) => refuse(stderr, says, fault),
+        Opened::Log(header) => scan_frames(stdout, stderr, log, says, &mut piece, header),
     }
 }
 
-fn refuse(says: &[u8], fault: Fault) {
-    say(says);
-    say(b": bad header: ");
+fn refuse(stderr: &impl Print, says: &[u8], fault: Fault) {
+    say(stderr, says);
+    say(stderr, b": bad header: ");
     match fault {
-        Fault::Length => say(b"length\n"),
-        Fault::Magic => say(b"magic\n"),
-        Fault::Version => say(b"version\n"),
-        Fault::PageSize => say(b"page size\n"),
-        Fault::Checksum => say(b"checksum\n"),
+        Fault::Length => say(stderr, b"length\n"),
+        Fault::Magic => say(stderr, b"magic\n"),
+        Fault::Version => say(stderr, b"version\n"),
+        Fault::PageSize => say(stderr, b"page size\n"),
+        Fault::Checksum => say(stderr, b"checksum\n"),
     }
 }
 
 // Each frame's line is put as it is read, and the summary at the end.
-fn scan_frames(fd: i32, says: &[u8], piece: &mut [u8; PIECE], header: Header)
+fn scan_frames(
+    stdout: &impl Print,
+    stderr: &impl Print,
+    log: &mut impl Read,
+    says: &[u8],
+    piece: &mut [u8; PIECE],
+    header: Header,
+)
     requires { header.page_size ≤ 65536 }
 {
     let mut out = [0u8; ROOM];
@@ -61,26 +69,26 @@ fn scan_frames(fd: i32, says: &[u8], piece: &mut [u8; PIECE], header: Header)
     let mut summary = wal_frames::start(header);
     while summary.end < LONGEST {
         let sums = summary.sums;
-        let found = read_frame(fd, piece, header, sums);
+        let found = read_frame(log, piece, header, sums);
         let NextFrame::Valid(frame) = found else {
-            return finish(says, &mut out, at, summary, found);
+            return finish(stdout, stderr, says, &mut out, at, summary, found);
         };
-        let place = next_place(&out, at);
+        let place = next_place(stdout, &out, at);
         if !place.open {
             return;
         }
         summary = wal_frames::add_frame(summary, frame);
         at = lines::put_frame(&mut out, place.at, summary.frames, frame);
     }
-    finish(says, &mut out, at, summary, NextFrame::End)
+    finish(stdout, stderr, says, &mut out, at, summary, NextFrame::End)
 }
 
-fn read_frame(fd: i32, piece: &mut [u8], header: Header, sums: Sums) -> NextFrame
+fn read_frame(log: &mut impl Read, piece: &mut [u8], header: Header, sums: Sums) -> NextFrame
     requires { frame_length header ≤ length piece.old }
 {
-    let filled = fill(fd, piece, wal_frame::length(header));
-    if filled.failed {
-        return NextFrame::Unread;
+    let filled = fill(log, piece, wal_frame::length(header));
+    if let Some(reason) = filled.failed {
+        return NextFrame::Unread(reason);
     }
     let count = filled.count;
     match wal_frame::next_frame(&piece[..count], header, sums) {
@@ -90,15 +98,22 @@ fn read_frame(fd: i32, piece: &mut [u8], header: Header, sums: Sums) -> NextFram
 }
 
 // Writes out what is left of the output. A log that could not be read to its end has no summary.
-fn finish(says: &[u8], out: &mut [u8; ROOM], at: usize, summary: Summary, found: NextFrame)
+fn finish(
+    stdout: &impl Print,
+    stderr: &impl Print,
+    says: &[u8],
+    out: &mut [u8; ROOM],
+    at: usize,
+    summary: Summary,
+    found: NextFrame,
+)
     requires { at ≤ 110000 }
 {
-    if let NextFrame::Unread = found {
-        // Before anything else is called: the reason is that of the last call of the system that failed.
-        os::fail(says);
-        write_first(out, at);
+    if let NextFrame::Unread(reason) = found {
+        say_failure(stderr, says, reason);
+        write_first(stdout, out, at);
         return;
     }
     let end = lines::put_summary(out, at, summary);
-    write_first(out, end);
+    write_first(stdout, out, end);
 }
