@@ -1,0 +1,40 @@
+-- Each pass may refuse, since sound memory passes them all; and if none refuses, they come to soundness.
+use Rattle.std.proofs.Common.{refl}
+use Rattle.pool.proofs.Decides.{passes, refuses}
+use Rattle.soundness.proofs.Joining.{sound_checked, readable, keys_orderable, handles_orderable, last_decides}
+use Rattle.soundness.proofs.sound.is_sound.Goals as goal
+
+pub returns-then-not-marks_agree : goal.returns-then-not-marks_agree
+returns-then-not-marks_agree c = refuses c.if-not-marks_agree.ensures refl (λ s. (sound_checked s).marks)
+
+pub is_ring-requires : goal.is_ring-requires
+is_ring-requires c = readable (passes c.if-not-lengths_agree.ensures refl)
+
+pub returns-then-not-is_ring : goal.returns-then-not-is_ring
+returns-then-not-is_ring c = refuses c.if-not-is_ring.ensures refl (λ s. (sound_checked s).ring)
+
+pub lists-requires : goal.lists-requires
+lists-requires c = keys_orderable (passes c.if-not-lengths_agree.ensures refl) (passes c.if-not-in_range.ensures refl)
+
+pub returns-then-not-lists : goal.returns-then-not-lists
+returns-then-not-lists c = refuses c.if-not-lists.ensures refl (λ s. (sound_checked s).keys)
+
+pub lists-requires-2 : goal.lists-requires-2
+lists-requires-2 c = handles_orderable (passes c.if-not-lengths_agree.ensures refl) (passes c.if-not-in_range.ensures refl)
+
+pub returns-then-not-lists-2 : goal.returns-then-not-lists-2
+returns-then-not-lists-2 c = refuses c.if-not-lists-2.ensures refl (λ s. (sound_checked s).handles)
+
+pub all_slots_good-requires : goal.all_slots_good-requires
+all_slots_good-requires c = readable (passes c.if-not-lengths_agree.ensures refl)
+
+pub returns : goal.returns
+returns c =
+    last_decides
+    (passes c.if-not-lengths_agree.ensures refl)
+    (passes c.if-not-in_range.ensures refl)
+    (passes c.if-not-marks_agree.ensures refl)
+    (passes c.if-not-is_ring.ensures refl)
+    (passes c.if-not-lists.ensures refl)
+    (passes c.if-not-lists-2.ensures refl)
+    c.all_slots_good.ensures
