@@ -6,7 +6,7 @@ use Prim.Native.Nat.{ℕ}
 use lib.ListN.{length}
 use Rattle.page.specs.declared.cache.PageCache.{PageCache}
 use Rattle.creating.specs.declared.creating.Created.{Created}
-use Rattle.creating.proofs.Created.{SameCreation, created_same}
+use Rattle.creating.proofs.NewPool.{SameCreation, created_same}
 use Rattle.answer.specs.declared.answered.Answered.{Answered}
 use Rattle.contract.specs.Called.{State}
 use Rattle.contract.proofs.Same.{called_same}

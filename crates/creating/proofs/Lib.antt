@@ -1,1 +1,1 @@
-pub mod Created
+pub mod NewPool

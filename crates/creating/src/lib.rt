@@ -2,7 +2,7 @@
 //
 // Callers may rely on `Creates` (specs/Creation.antt), which goes by document 01's number for the answer: a refusal, 16 or 15,
 // alters nothing; otherwise every lent word is set, what is left is known to the last word, and it holds a cache with nothing
-// in it. `Creates` is deterministic (`created_same`, proofs/Created.antt).
+// in it. `Creates` is deterministic (`created_same`, proofs/NewPool.antt).
 #![tactic(auto)]
 
 mod creating;

@@ -7,7 +7,7 @@ use Rattle.pool.specs.Slots.{entries}
 use Rattle.memory.specs.Memory.{Memory}
 use Rattle.creating.specs.Creation as creation
 use Rattle.creating.specs.declared.creating.Created.{Created}
-use Rattle.creating.proofs.Created.{SameCreation, created_same}
+use Rattle.creating.proofs.NewPool.{SameCreation, created_same}
 use Rattle.listing.specs.Outcome as listing
 use Rattle.listing.specs.declared.testing.Listing.{Listing}
 use Rattle.listing.proofs.Outcomes.{comes_once}

@@ -118,10 +118,6 @@ module _ (size : ℕ) where
       go (yes e) = ap (λ (w : ℕ). digit (get_or (free_marks size) w 0) (k % 64)) e ∙ ap (λ (x : ℕ). digit x (k % 64)) word_last ∙ ones_above (size % 64) (k % 64) (omega arith)
       go (no ne) = bit_past (free_marks size) k (omega (arith, free_long))
 
--- so 1 can be subtracted from what the code shifts
-pub shifted_some : (b : ℕ) → b < 64 → 1 ≤ 1 * 2 ^ b % 2 ^ 64
-shifted_some b h = rw (shifted b h) (pow_pos b)
-
 -- what the code writes: all words full, and then the last one cut, if it is used in part
 module _ {m : List ℕ} {size : ℕ} (fit : MarksFit m size) {full : List ℕ} (filled : full ≡ replicate (length m) (2 ^ 64 - 1)) where
   full_long : length full ≡ (size + 63) / 64
