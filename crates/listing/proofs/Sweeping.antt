@@ -47,7 +47,7 @@ module _ (es : List PageCacheEntry) where
 
   stands_ring : (seats : List ℕ) → RingOf es seats → Stands es (first_of seats) (row_of es seats)
   stands_ring [] g = tt
-  stands_ring (a ∷ r) g = stands_way a a r (simp length-map at g.inside) g.round
+  stands_ring (a ∷ r) g = stands_way a a r (subst (λ (n : ℕ). Below n (a ∷ r)) (length-map es _) g.inside) g.round
 
 module _ {m : Memory} {head : PageCache} {c : Cache} (g : Holds m head c) where
   pub row_stands : Stands (entries m.slots) head.hand.0 c.row

@@ -1,6 +1,4 @@
-// The listing in records. The borrow checker covers no function that is lent a slice of structs, so the two here are proved
-// by a walk of their code, by hand. They do as little as they can: each page is fetched by value and stored by one assignment,
-// and the tests are made elsewhere.
+// The listing in records: each page is fetched by value and stored by one assignment. The tests are made elsewhere.
 ghost use Rattle.memory.specs.Memory.{memory_of};
 ghost use Rattle.listing.specs.Listing.{in_records, CanListRow, WritesRow};
 ghost use Rattle.listing.specs.Outcome.{ListingEffect};
