@@ -8,9 +8,8 @@ use native.Mathlib.Nat.{not-suc-le-zero}
 use native.Mathlib.Decide.{ℕ_discrete}
 use native.Mathlib.Omega.{arith}
 use lib.Pow.{pow_pos, ones_lt, shr_lt}
-use lib.ListN.{length, get_or, set, drop, replicate, length-map, length-append, length-replicate, length-set, get_or-replicate, length-drop, get_or-append}
+use lib.ListN.{length, get_or, set, drop, replicate, length-map, length-append, length-replicate, get_or-replicate, get_or-append}
 use lib.Seq.{get_or-append-add}
-use borrow.Author.Fill.{fill_none, fill_more}
 use Rattle.page.specs.Cache.{max_slots, created}
 use Rattle.page.specs.declared.cache.PageCache.{PageCache}
 use Rattle.page.specs.declared.entry.PageCacheEntry.{PageCacheEntry}
@@ -36,27 +35,6 @@ pub record Filling (old : List ℕ) (x : ℕ) (l : List ℕ) (i : ℕ) : Type 0 
   pub same : l ≡ replicate i x ++ drop i old
   pub long : length l ≡ length old
   pub within : i ≤ length old
-
-pub filling_none : {old : List ℕ} {x : ℕ} → Filling old x old 0
-filling_none {old} {x} = record { same = fill_none old x; long = refl; within = omega arith }
-
-module _ {old : List ℕ} {x : ℕ} {l : List ℕ} {i : ℕ} (f : Filling old x l i) where
-  pub filling_more : i < length l → Filling old x (set l i x) (i + 1)
-  filling_more h = record {
-    same = ap (λ (z : List ℕ). set z i x) f.same ∙ fill_more i x old (omega (arith, f.long));
-    long = length-set l i x ∙ f.long;
-    within = omega (arith, f.long);
-  }
-
-  pub filling_all : length l ≤ i → l ≡ replicate (length old) x
-  filling_all h =
-      let whole : i ≡ length old = omega (arith, f.long, f.within) in
-      f.same ∙ ap (λ (r : List ℕ). replicate i x ++ r) (nothing (drop i old) (omega (arith, length-drop i old))) ∙ append-nil (replicate i x)
-      ∙ ap (λ (n : ℕ). replicate n x) whole
-    where
-      nothing : (r : List ℕ) → length r ≡ 0 → r ≡ []
-      nothing [] e = refl
-      nothing (y ∷ r) e = absurd (omega arith)
 
 -- ── the marks of a new pool ──────────────────────────────────────────────────
 ones_below : (d i : ℕ) → i < d → digit (2 ^ d - 1) i ≡ 1
