@@ -1,6 +1,6 @@
 ghost use Rattle.std.specs.Prelude.{[]};
 ghost use Rattle.model.specs.Call as call;
-ghost use Rattle.memory.specs.Memory.{memories};
+ghost use Rattle.memory.specs.Memory.{memory_of};
 ghost use Rattle.contract.specs.Called.{lent, Called};
 
 use answer::{Answer, Answered};
@@ -16,7 +16,7 @@ pub fn release_page(
     head: PageCache,
     key: PageCacheKey,
 ) -> Answered
-    ensures { let m = memories slots by_key by_handle marks in Called (call.release key.0) (lent m.entry []) head (lent m.exit []) result }
+    ensures { let before = memory_of slots.old by_key.now by_handle.now marks.now in let after = memory_of slots.new by_key.now by_handle.now marks.now in Called (call.release key.0) (lent before []) head (lent after []) result }
 {
     if !is_sound(slots, by_key, by_handle, marks, head) {
         return Answered::plain(Answer::NotSound, head);

@@ -1,7 +1,7 @@
 // Which pages a spill should take (rules 13 and 14).
 ghost use Rattle.std.specs.Prelude.{length};
 ghost use Rattle.model.specs.Call as call;
-ghost use Rattle.memory.specs.Memory.{memories};
+ghost use Rattle.memory.specs.Memory.{memory_of};
 ghost use Rattle.contract.specs.Called.{lent, Called};
 
 use answer::{Answer, Answered};
@@ -18,7 +18,7 @@ pub fn check_spill(
     head: PageCache,
     most: u64,
 ) -> Answered
-    ensures { let m = memories slots by_key by_handle marks in Called (call.spill most (length list.old)) (lent m.entry list.old) head (lent m.exit list.new) result }
+    ensures { let m = memory_of slots.now by_key.now by_handle.now marks.now in Called (call.spill most (length list.old)) (lent m list.old) head (lent m list.new) result }
 {
     if !is_sound(slots, by_key, by_handle, marks, head) {
         return Answered::plain(Answer::NotSound, head);
