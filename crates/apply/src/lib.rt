@@ -8,7 +8,7 @@
 #![tactic(auto)]
 
 ghost use Rattle.pool.specs.Decides.{Decides};
-ghost use Rattle.memory.specs.Memory.{memories};
+ghost use Rattle.memory.specs.Memory.{memory_of, memories};
 ghost use Rattle.contract.specs.Called.{lent};
 ghost use Rattle.dispatch.specs.Runs.{Runnable};
 ghost use Rattle.apply.specs.Applied.{Applied};
@@ -50,7 +50,7 @@ fn is_ready(
     head: PageCache,
     operation: u8,
 ) -> bool
-    ensures { let m = memories slots by_key by_handle marks in Decides result (Runnable operation m.entry head) }
+    ensures { Decides result (Runnable operation (memory_of slots.now by_key.now by_handle.now marks.now) head) }
 {
     if (operation < 1) | (operation > 17) {
         return true;
