@@ -1,4 +1,5 @@
 pub mod Searching
+pub mod Obeying
 pub mod Once
 pub mod FreeSpace
 pub mod EmptyPage

@@ -1,8 +1,10 @@
 -- All pages are removed: memory as after creation holds a cache with nothing in it, and the spill switch is what it was.
 use mathlib.Core.Path.{◌≡◌, refl, ap, subst}
-use mathlib.Core.List.{List, [], append-nil}
+use mathlib.Core.List.{List, [], ◌∷◌, append-nil}
+use mathlib.Core.Logic.{⊎_elim}
 use Prim.Native.Nat.{ℕ}
 use native.Mathlib.Omega.{arith}
+use types.Run.{OneOf}
 use Rattle.page.specs.declared.cache.PageCache.{PageCache}
 use Rattle.model.specs.Cache.{Cache, fresh, with_estimate, with_row}
 use Rattle.model.specs.Call.{Outcome, answer, listing}
@@ -37,6 +39,9 @@ head_switched spill head = record {
 pub record IsDone (r : Created) : Type 0 where
   pub new : PageCache
   pub done : r ≡ Done new
+
+pub no_refusal : OneOf (1 ∷ 2 ∷ []) 0 → ⊥
+no_refusal tag = ⊎_elim (λ (q : ◌≡◌ {A = ℕ} 0 1). omega arith) (λ (q : ◌≡◌ {A = ℕ} 0 2). omega arith) tag
 
 module _ {m : Memory} {head : PageCache} {c : Cache} (H : Holds m head c) where
   pub never_refused : (m' : Memory) (r : Created) → Creates m head.capacity r m' → IsDone r

@@ -8,8 +8,9 @@ use native.Mathlib.Nat.{not-suc-le-zero}
 use native.Mathlib.Decide.{ℕ_discrete}
 use native.Mathlib.Omega.{arith}
 use lib.Pow.{pow_pos, ones_lt, shr_lt}
-use lib.ListN.{length, get_or, set, drop, replicate, length-map, length-append, length-replicate, get_or-replicate, get_or-append}
+use lib.ListN.{length, get_or, set, drop, replicate, length-map, length-append, length-replicate, length-set, get_or-replicate, length-drop, get_or-append}
 use lib.Seq.{get_or-append-add}
+use borrow.Author.Fill.{fill_none, fill_more}
 use Rattle.page.specs.Cache.{max_slots, created}
 use Rattle.page.specs.declared.cache.PageCache.{PageCache}
 use Rattle.page.specs.declared.entry.PageCacheEntry.{PageCacheEntry}
@@ -35,6 +36,27 @@ pub record Filling (old : List ℕ) (x : ℕ) (l : List ℕ) (i : ℕ) : Type 0 
   pub same : l ≡ replicate i x ++ drop i old
   pub long : length l ≡ length old
   pub within : i ≤ length old
+
+pub filling_none : {old : List ℕ} {x : ℕ} → Filling old x old 0
+filling_none {old} {x} = record { same = fill_none old x; long = refl; within = omega arith }
+
+module _ {old : List ℕ} {x : ℕ} {l : List ℕ} {i : ℕ} (f : Filling old x l i) where
+  pub filling_more : i < length l → Filling old x (set l i x) (i + 1)
+  filling_more h = record {
+    same = ap (λ (z : List ℕ). set z i x) f.same ∙ fill_more i x old (omega (arith, f.long));
+    long = length-set l i x ∙ f.long;
+    within = omega (arith, f.long);
+  }
+
+  pub filling_all : length l ≤ i → l ≡ replicate (length old) x
+  filling_all h =
+      let whole : i ≡ length old = omega (arith, f.long, f.within) in
+      f.same ∙ ap (λ (r : List ℕ). replicate i x ++ r) (nothing (drop i old) (omega (arith, length-drop i old))) ∙ append-nil (replicate i x)
+      ∙ ap (λ (n : ℕ). replicate n x) whole
+    where
+      nothing : (r : List ℕ) → length r ≡ 0 → r ≡ []
+      nothing [] e = refl
+      nothing (y ∷ r) e = absurd (omega arith)
 
 -- ── the marks of a new pool ──────────────────────────────────────────────────
 ones_below : (d i : ℕ) → i < d → digit (2 ^ d - 1) i ≡ 1
@@ -95,6 +117,10 @@ module _ (size : ℕ) where
       go : Dec (k / 64 ≡ size / 64) → bit_at (free_marks size) k ≡ 0
       go (yes e) = ap (λ (w : ℕ). digit (get_or (free_marks size) w 0) (k % 64)) e ∙ ap (λ (x : ℕ). digit x (k % 64)) word_last ∙ ones_above (size % 64) (k % 64) (omega arith)
       go (no ne) = bit_past (free_marks size) k (omega (arith, free_long))
+
+-- so 1 can be subtracted from what the code shifts
+pub shifted_some : (b : ℕ) → b < 64 → 1 ≤ 1 * 2 ^ b % 2 ^ 64
+shifted_some b h = rw (shifted b h) (pow_pos b)
 
 -- what the code writes: all words full, and then the last one cut, if it is used in part
 module _ {m : List ℕ} {size : ℕ} (fit : MarksFit m size) {full : List ℕ} (filled : full ≡ replicate (length m) (2 ^ 64 - 1)) where

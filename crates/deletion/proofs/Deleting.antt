@@ -3,7 +3,7 @@
 use mathlib.Core.Path.{◌≡◌, refl, sym, ap, ◌∙◌, subst₃}
 use mathlib.Core.List.{List, [], ◌∷◌}
 use mathlib.Core.Option.{Option, none}
-use mathlib.Core.Logic.{◌≢◌}
+use mathlib.Core.Logic.{◌≢◌, ◌⊎◌, inl, inr}
 use Prim.Native.Nat.{ℕ, ◌≤◌, ◌<◌}
 use native.Mathlib.Omega.{arith}
 use lib.ListN.{length, get_or, set}
@@ -29,6 +29,12 @@ use Rattle.answer.proofs.Steps.{step_acts, step_short_list, list_short, list_lon
 use Rattle.moves.specs.Moves.{StandsAt, KeyAt, Removes}
 use Rattle.moves.proofs.Removal.{some_held}
 use Rattle.deletion.specs.Deletion.{CanDelete, Goes, Stays}
+
+-- a reason has another number than `Yes`, which is 0
+pub some_reason : ◌≡◌ {A = ℕ} 0 1 ⊎ (◌≡◌ {A = ℕ} 0 2 ⊎ ◌≡◌ {A = ℕ} 0 3) → ⊥
+some_reason (inl q) = omega arith
+some_reason (inr (inl q)) = omega arith
+some_reason (inr (inr q)) = omega arith
 
 -- ── the page at the slot ─────────────────────────────────────────────────────
 module _ {m : Memory} {head : PageCache} {c : Cache} {key s : ℕ} {e : Entry} (H : Holds m head c) (at : StandsAt c.row key s e)

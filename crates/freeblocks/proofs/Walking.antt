@@ -1,7 +1,7 @@
 -- Each turn of the walk passes one good block, so that the answer for the rest of the chain is the answer for the whole.
 use mathlib.Core.Path.{◌≡◌, sym, subst, ◌∙◌}
 use mathlib.Core.List.{List}
-use Prim.Native.Nat.{ℕ, ◌+◌}
+use Prim.Native.Nat.{ℕ, ◌+◌, ◌-◌, ◌<◌}
 use native.Mathlib.Omega.{arith}
 use Rattle.btree_format.specs.Fields.{half, size_at}
 use Rattle.btree_format.specs.Rules.{Chain, ends, bad_link, bad_size, goes_on, Placed, Sized}
@@ -13,6 +13,9 @@ use Rattle.freeblocks.specs.Chained.{Linked}
 pub record Walked (b : List ℕ) (end link least at free : ℕ) : Type 0 where
   pub linked : Linked b end at
   pub rest : (place : Place) → Chain b end at free place → Chain b end link least place
+
+pub walk_begins : {b : List ℕ} {end link least : ℕ} → Linked b end link → Walked b end link least link least
+walk_begins linked = record { linked = linked; rest = λ place chain. chain }
 
 module _ {b : List ℕ} {end link least at free : ℕ} (w : Walked b end link least at free) {block : ℕ} (read : block ≡ half b at) where
   pub walk_ends : block ≡ 0 → Chain b end link least Nowhere
@@ -41,3 +44,7 @@ module _ {b : List ℕ} {end link least at free : ℕ} (w : Walked b end link le
           rest = λ place chain. w.rest place
               (goes_on another (rw read at placed) (rw (own_size, read) at sized) (rw (own_size, read) at chain));
         }
+
+        -- what is left of the page shrinks
+        pub walk_shortens : end - (block + size) < end - free
+        walk_shortens = omega (arith, placed.after, sized.large, sized.within)

@@ -47,6 +47,13 @@ module _ {A : Type 0} where
       length-append (shown p) (flat_map shown ps) ∙ rw (even p, rest) (omega arith)
 
   module _ {shown : ListedPage → List A} {width : ℕ} {slots : List ℕ} {h n : ℕ} {before : List A} {s i : ℕ} {list : List A} (g : Filling shown width slots h n before s i list) where
+    pub filling_inside : i < n → s < length (entries slots)
+    filling_inside more = at g.left g.count g.inside
+      where
+        at : (k : ℕ) → i + k ≡ n → Inside (entries slots) s k → s < length (entries slots)
+        at zero e w = absurd (omega arith)
+        at (suc k) e w = w.0
+
     pub filling_more : {p : RingPage} {list' : List A} → Even shown width → i < n → p ≡ ring_page_at (entries slots) s → list' ≡ sets list (i * width) (shown p.page)
         → Filling shown width slots h n before p.next.0 (i + 1) list'
     unfolding pages_from flat_map

@@ -1,1 +1,2 @@
 mod Reading
+mod Deciding

@@ -1,12 +1,12 @@
 -- A number is read from its highest byte down: what was read is the number of the bytes from there on, and each byte more is
 -- one more digit to the base 256.
-use mathlib.Core.Path.{◌≡◌, refl, sym, ap, ◌∙◌}
+use mathlib.Core.Path.{◌≡◌, refl, sym, ap, subst, ◌∙◌}
 use mathlib.Core.List.{List}
 use Prim.Native.Nat.{ℕ, suc, ◌+◌, ◌*◌, ◌-◌, ◌^◌, ◌≤◌, ◌<◌}
 use native.Mathlib.Nat.{pow-suc, pow-le-pow_right}
 use native.Mathlib.Omega.{arith}
 use lib.ListN.{get_or}
-use Rattle.replay_record.specs.Fields.{number, NumberReadable}
+use Rattle.replay_record.specs.Fields.{number, NumberReadable, ReadAt}
 
 -- all but the first `left` bytes are read
 pub record Read (bytes : List ℕ) (at width left n : ℕ) : Type 0 where
@@ -40,4 +40,13 @@ module _ {bytes : List ℕ} {at width left n : ℕ} where
             let same : number r.count bytes (suc (at + (left - 1))) ≡ n = ap (λ (k : ℕ). number r.count bytes k) place ∙ sym r.value in
             omega (arith, same);
         small = omega (arith, r.small, pow-suc 256 r.count);
+      }
+
+  pub read_all : Read bytes at width left n → left ≤ 0 → ReadAt bytes at width n
+  read_all r done =
+      let all : r.count ≡ width = omega (arith, r.rest) in
+      let place : at + left ≡ at = omega arith in
+      record {
+        value = r.value ∙ ap (λ (k : ℕ). number r.count bytes k) place ∙ ap (λ (k : ℕ). number k bytes at) all;
+        small = subst (λ (k : ℕ). n < 256 ^ k) all r.small;
       }

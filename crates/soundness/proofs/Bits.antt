@@ -8,13 +8,15 @@ use native.Mathlib.Decide.{ℕ_discrete}
 use native.Mathlib.Omega.{arith}
 use lib.Dec.{eqb}
 use lib.Pow.{pow_pos, shr_lt}
-use lib.ListN.{get_or}
+use lib.ListN.{length, get_or}
+use Rattle.page.specs.declared.entry.PageCacheEntry.{PageCacheEntry}
 use Rattle.free_marks.specs.Marks.{bit_at}
+use Rattle.pool.specs.Slots.{blank}
 use Rattle.pool.specs.Decides.{Decides}
 use Rattle.free_marks.proofs.Digits.{digit, digit_shifted, digit_of_none, digits_once}
 use Rattle.free_marks.proofs.Marking.{bit_past}
-use Rattle.pool.proofs.Decides.{decides_eq, decides_as}
-use Rattle.soundness.specs.Checks.{MarksFit, Beyond}
+use Rattle.pool.proofs.Decides.{decides_yes, decides_eq, decides_as}
+use Rattle.soundness.specs.Checks.{MarksFit, Beyond, HeldEntryGood, SlotGood}
 
 -- ── one mark ─────────────────────────────────────────────────────────────────
 -- what the answer of `is_free` says of a mark
@@ -25,8 +27,21 @@ module _ {mark : ℕ} {free : Bool} (t : Decides free (mark ≡ 1)) where
   pub held_unmarked : mark ≤ 1 → free ≡ false → mark ≡ 0
   held_unmarked h e = let ne : mark ≡ 1 → ⊥ = λ q. true≢false (sym (t.whole q) ∙ e) in omega arith
 
+  -- and so of a slot that is looked at by it
+  module _ {e : PageCacheEntry} {answer : Bool} where
+    pub free_slot_good : free ≡ true → Decides answer (e ≡ blank) → Decides answer (SlotGood mark e)
+    free_slot_good f b = decides_as b (λ p. record { held = λ z. absurd (free_marked f z); free = λ _. p }) (λ p. p.free (t.right f))
+
+    pub held_slot_good : mark ≤ 1 → free ≡ false → {read : PageCacheEntry} → read ≡ e → Decides answer (HeldEntryGood read) → Decides answer (SlotGood mark e)
+    held_slot_good h f r b = decides_as (rw r at b)
+        (λ p. record { held = λ _. p; free = λ o. absurd (true≢false (sym (t.whole o) ∙ f)) }) (λ p. p.held (held_unmarked h f))
+
 -- ── beyond the last slot ─────────────────────────────────────────────────────
 module _ {m : List ℕ} {size : ℕ} (fit : MarksFit m size) where
+  -- there is no last word that is used in part
+  pub beyond_none : length m ≤ size / 64 → Decides true (Beyond m size)
+  beyond_none h = decides_yes record { clear = λ k g. bit_past m k (omega arith) }
+
   abbrev word : ℕ
   word = get_or m (size / 64) 0
 

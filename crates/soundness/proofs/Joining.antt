@@ -39,7 +39,7 @@ use Rattle.memory.specs.Holds.{Lengths, Seated, row_of, Marked, EntryGood, Holds
 use Rattle.memory.proofs.Rows.{each_seat, seat_each}
 use Rattle.memory.proofs.Seats.{blank_spare}
 use Rattle.memory.proofs.Standing.{holds_size}
-use Rattle.soundness.specs.Checks.{Agreeing, InRange, Beyond, Counted, SlotsReadable, Taken, Walked, Orderable, IndexGood, HeldEntryGood, AllSlotsGood, Checked}
+use Rattle.soundness.specs.Checks.{Agreeing, InRange, MarksFit, Beyond, Counted, SlotsReadable, Taken, Walked, Orderable, IndexGood, HeldEntryGood, AllSlotsGood, Checked}
 use Rattle.soundness.proofs.Passes.{lt_or_le}
 use Rattle.soundness.proofs.Counting.{count_below, all_has, has_all, covers, as_many}
 use Rattle.soundness.proofs.Tally.{unmarked, unmarked_rest}
@@ -297,6 +297,9 @@ holds_agreeing {m} H = record {
 
 -- ── the test as a whole ──────────────────────────────────────────────────────
 module _ {m : Memory} (a : Agreeing m) where
+  pub marks_fit : MarksFit m.marks (length m.by_key)
+  marks_fit = record { words = a.lengths.marks; most = a.most }
+
   pub readable : SlotsReadable m.slots m.marks (length m.by_key)
   readable = record {
     each_entry = sym (entries_whole (length m.by_key) m.slots a.lengths.slots);

@@ -2,7 +2,7 @@
 -- slots after it be, and at last the start. So the loop need only follow the links and count; what is left to show at each turn
 -- is that the rest of the walk exists.
 use mathlib.Core.Path.{◌≡◌, refl, sym, ap, ◌∙◌}
-use mathlib.Core.Bool.{Bool, false}
+use mathlib.Core.Bool.{Bool, true, false}
 use mathlib.Core.List.{List, [], ◌∷◌}
 use Prim.Native.Nat.{ℕ, suc, ◌-◌, ◌≤◌, ◌<◌}
 use native.Mathlib.Omega.{arith}
@@ -20,7 +20,7 @@ use Rattle.ring_links.proofs.Columns.{next_at_lem, prev_at_lem}
 use Rattle.pool.proofs.Decides.{decides_no}
 use Rattle.soundness.specs.Checks.{Taken, Walked}
 use Rattle.free_marks.proofs.Marking.{bit_limit}
-use Rattle.soundness.proofs.Bits.{held_unmarked}
+use Rattle.soundness.proofs.Bits.{free_marked, held_unmarked}
 
 -- ── no slot twice ────────────────────────────────────────────────────────────
 module _ (n p : List ℕ) (z : ℕ) where
@@ -121,11 +121,21 @@ pub record Walking (es : List PageCacheEntry) (m : List ℕ) (n z k a : ℕ) : T
   pub on : Rest es m z k a → Rest es m z n z
   pub back : Rest es m z n z → Rest es m z k a
 
+pub walking_start : {es : List PageCacheEntry} {m : List ℕ} {n z : ℕ} → z < length es → Walking es m n z n z
+walking_start h = record { inside = h; on = λ t. t; back = λ t. t }
+
 module _ {es : List PageCacheEntry} {m : List ℕ} {n z k a : ℕ} (i : Walking es m n z k a) (some : 1 ≤ n) where
   no_walk : (Rest es m z k a → ⊥) → Decides false (Walked es m n z)
   no_walk f = decides_no (λ w. f (i.back (walked_rest some w)))
 
+  -- all slots are used up, and the walk is not back
+  pub walking_out : k ≡ 0 → Decides false (Walked es m n z)
+  walking_out e = no_walk (λ t. omega (arith, t.long))
+
   module _ {free : Bool} (t : Decides free (bit_at m a ≡ 1)) where
+    pub walking_free : free ≡ true → Decides false (Walked es m n z)
+    walking_free e = no_walk (λ r. free_marked t e (rest_taken r).held)
+
     module _ {next : ℕ} (r : next ≡ next_at es a) where
       pub walking_wild : z < length es → length es ≤ next → Decides false (Walked es m n z)
       walking_wild h l = no_walk (λ t. less (rest_next h t) (rw r at l))
@@ -174,3 +184,6 @@ walked_none {es} {m} {n} {hand} z = record {
     go : (l : List ℕ) → length l ≡ n → hand ≡ first_of l → hand ≡ 0
     go [] q e = e
     go (x ∷ l) q e = absurd (omega arith)
+
+pub walked_outside : {es : List PageCacheEntry} {m : List ℕ} {n hand : ℕ} → (n ≡ 0 → ⊥) → length es ≤ hand → Decides false (Walked es m n hand)
+walked_outside ne l = decides_no (λ w. omega (arith, (rest_taken (walked_rest (omega arith) w)).inside))

@@ -5,7 +5,7 @@ use mathlib.Core.Bool.{true, false}
 use mathlib.Core.List.{List, [], ◌∷◌, ◌++◌, map, map-append, append_assoc}
 use Prim.Native.Nat.{ℕ, suc, ◌+◌, ◌≤◌, ◌<◌}
 use native.Mathlib.Omega.{arith}
-use lib.ListN.{length, get_or, take, drop, set, length-append, length-map}
+use lib.ListN.{length, get_or, take, drop, set, length-append, length-drop, length-map}
 use lib.Seq.{take_all, take_at, drop-cons, set_at}
 use Rattle.page.specs.declared.cache.PageCache.{PageCache}
 use Rattle.page.specs.declared.entry.PageCacheEntry.{PageCacheEntry}
@@ -41,6 +41,11 @@ wrote_more {handles} {before} {after} {n} handle w count h = record {
     longer : suc n ≡ length (handles ++ handle ∷ [])
     longer = omega (arith, length-append handles (handle ∷ []))
 
+wrote_length : {handles before after : List ℕ} → Wrote handles before after → length handles ≤ length before → length after ≡ length before
+wrote_length {handles} {before} w h =
+    ap length w.list ∙ length-append handles (drop (length handles) before)
+    ∙ omega (arith, length-drop (length handles) before)
+
 -- ── the walk, place by place ─────────────────────────────────────────────────
 -- those of the first i pages of the walk that may be spilled
 abbrev spillables : (slots by_key : List ℕ) → ℕ → List Page
@@ -62,6 +67,10 @@ selecting_none slots by_key list held most = record {
 module _ {slots by_key before after : List ℕ} {held most i listed : ℕ} (s : Selecting slots by_key before held most i listed after) where
   selecting_count : listed ≡ length (handles_of (spillables slots by_key i))
   selecting_count = s.met.number ∙ sym (length-map (spillables slots by_key i) (λ p. p.handle))
+
+  -- the list is as long as it was lent
+  pub selecting_length : held ≤ length before → length after ≡ length before
+  selecting_length long = wrote_length s.wrote (omega (arith, selecting_count, s.met.upto, s.met.within))
 
 module _ {slots by_key before after : List ℕ} {held most i listed : ℕ} {e : PageCacheEntry} (r : PartsOfSound slots by_key held)
     (s : Selecting slots by_key before held most i listed after) (more : i < held)

@@ -12,9 +12,11 @@ use Rattle.page.specs.declared.cache.PageCache.{PageCache}
 use Rattle.page.specs.declared.entry.PageCacheEntry.{PageCacheEntry}
 use Rattle.pool.specs.Slots.{decode, blank, entries}
 use Rattle.pool.proofs.Packing.{entries_at}
-use Rattle.sorted_index.specs.Index.{Index, Hit, Miss, name_at}
+use Rattle.sorted_index.specs.Index.{Index, FoundSpot, Hit, Miss, name_at}
 use Rattle.sorted_index.specs.Names.{names}
 use Rattle.sorted_index.specs.declared.search.By.TheVariants.{Key}
+use Rattle.sorted_index.specs.declared.search.Spot.{Spot}
+use Rattle.sorted_index.specs.declared.search.Spot.TheVariants.{Here, Gap}
 use Rattle.sorted_index.proofs.Ascending.{ascending, upto}
 use Rattle.sorted_index.proofs.Names.{name_at_lem, index_slot}
 use Rattle.model.specs.Cache.{Cache}
@@ -76,3 +78,11 @@ module _ (slots by_key : List ℕ) (n limit : ℕ) where
     -- or would go there
     pub above_miss : (at : ℕ) → Miss (names Key (entries slots)) by_key n limit at → FirstAbove slots by_key n limit at
     above_miss at miss = record { within = miss.within; none = λ k h. not_above k (omega (arith, miss.below k h)) }
+
+-- once the search has answered
+module _ (col order : List ℕ) (n x : ℕ) (r : Spot) where
+  pub says_hit : {at : ℕ} → r ≡ Here at → FoundSpot col order n x r → Hit col order n x at
+  says_hit = subst (FoundSpot col order n x)
+
+  pub says_miss : {at : ℕ} → r ≡ Gap at → FoundSpot col order n x r → Miss col order n x at
+  says_miss = subst (FoundSpot col order n x)

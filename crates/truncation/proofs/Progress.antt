@@ -6,6 +6,7 @@ use mathlib.Core.List.{List, [], ◌∷◌, ◌++◌, append-nil}
 use Prim.Native.Nat.{ℕ, ◌+◌, ◌≤◌, ◌<◌}
 use native.Mathlib.Omega.{arith}
 use lib.ListN.{length, get_or, drop, length-append, length-drop}
+use Rattle.page.specs.Cache.{max_slots}
 use Rattle.page.specs.Record.{deletable}
 use Rattle.page.specs.declared.cache.PageCache.{PageCache}
 use Rattle.pool.specs.Slots.{entries}
@@ -16,13 +17,16 @@ use Rattle.model.specs.Rules.{delete_each}
 use Rattle.memory.specs.Memory.{Memory}
 use Rattle.memory.specs.Holds.{Holds}
 use Rattle.memory.proofs.Lengths.{SameLengths, same_start, same_then}
-use Rattle.memory.proofs.Walks.{walk_inside}
+use Rattle.memory.proofs.OnceKept.{holds_held, holds_fits}
+use Rattle.memory.proofs.Walks.{walk_fits, walk_inside}
 use Rattle.answer.specs.Answer.{code_of, value_of, Wrote, MatchesOutcome, ReadyToCall}
 use Rattle.answer.specs.declared.answer.Answer.{Answer}
 use Rattle.answer.specs.declared.answer.Answer.TheVariants.{Done}
 use Rattle.answer.proofs.Steps.{wrote_none, wrote_next, plain_follows, listing_follows, deleting_refused, comes_as}
 use Rattle.moves.specs.Moves.{StandsAt}
-use Rattle.deletion.specs.Deletion.{CanDelete, Goes, Stays}
+use Rattle.deletion.specs.Deletion.{CanDelete, Goes, Stays, DeletionOf}
+use Rattle.deletion.specs.declared.deletion.Deletion.{Deletion}
+use Rattle.deletion.specs.declared.deletion.Deletion.TheVariants.{Deleted, Refused}
 use Rattle.truncation.specs.Deletions.{chooses, page_at, Walkable}
 use Rattle.truncation.specs.declared.deletions.Which.{Which}
 use Rattle.truncation.proofs.Places.{place_stands, place_held}
@@ -72,9 +76,14 @@ module _ {which : Which} {m : Memory} {head : PageCache} {list : List ℕ} {m' :
   few_gone : length g.gone ≤ length list
   few_gone = omega (arith, g.few, g.counted, g.ready.long)
 
-  progress_long : length list' ≡ length list
+  pub progress_long : length list' ≡ length list
   progress_long =
       ap length g.wrote.list ∙ length-append g.gone (drop (length g.gone) list) ∙ omega (arith, length-drop (length g.gone) list, few_gone)
+
+  pub progress_count : count ≤ max_slots
+  progress_count =
+      let H = g.ready.sound.holds in
+      omega (arith, g.few, holds_held H, holds_fits H, H.limits.most)
 
   -- the call ends here with the answer a
   ends : {whole : Outcome} {c' : Cache} {m'' : Memory} {list'' : List ℕ} (a : Answer) → list'' ≡ list' → Holds m'' head' c'
@@ -91,6 +100,9 @@ module _ {which : Which} {m : Memory} {head : PageCache} {list : List ℕ} {m' :
   progress_done end c H = let t = g.toward c H in ends (Done 0) refl t.holds (toward_end t (omega (arith, g.within)))
 
   module _ (more : i < head'.held) where
+    pub progress_place : i < length m'.by_key
+    progress_place = omega (arith, walk_fits known.holds)
+
     pub progress_slot : get_or m'.by_key i 0 < length (entries m'.slots)
     progress_slot = walk_inside known.holds i more
 
@@ -153,3 +165,11 @@ module _ {which : Which} {m : Memory} {head : PageCache} {list : List ℕ} {m' :
           (toward_one t more chosen
           ∙ ap {B = Outcome} (listing g.gone) (deleting_refused p (delete_each (left which m' head' (i + 1))) t.now (deletable p.state) refl s.may_not
           ∙ ap {B = Outcome} (λ (x : Answer). answer (code_of x) (value_of x) t.now) (sym s.because)))
+
+-- ── once the answer is known ─────────────────────────────────────────────────
+module _ (c : Cache) (p : Page) (m : Memory) (list : List ℕ) (place : ℕ) (m' : Memory) (list' : List ℕ) (r : Deletion) where
+  pub says_deleted : {head' : PageCache} → r ≡ Deleted head' → DeletionOf c p m list place m' list' r → Goes c p list place m' list' head'
+  says_deleted = subst (DeletionOf c p m list place m' list')
+
+  pub says_refused : {a : Answer} → r ≡ Refused a → DeletionOf c p m list place m' list' r → Stays p m list m' list' a
+  says_refused = subst (DeletionOf c p m list place m' list')

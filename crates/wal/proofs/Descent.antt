@@ -64,6 +64,11 @@ module _ {page n : ℕ} {b : List ℕ} {count : ℕ} where
   pub descent_start : 32 + count * n ≤ length b → Descent page n b count count (32 + count * n)
   descent_start within = record { place = refl; within = within; rest = refl }
 
+  -- the frame below is there
+  pub descent_room : {left at : ℕ} → Descent page n b count left at → 0 < left → 32 + n ≤ at
+  descent_room {left = zero} g some = absurd (omega arith)
+  descent_room {left = suc k} g some = omega (arith, g.place)
+
   -- what is left is decided by the frame below
   descent_look : {k at x : ℕ} → Descent page n b count (suc k) at → x ≡ big_endian b (at - n)
       → newest page n 0 32 (placed n b count 32)

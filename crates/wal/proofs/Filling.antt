@@ -54,8 +54,26 @@ pub record Filling (n : ℕ) (b : List ℕ) (count : ℕ) (pages₀ sizes₀ pag
   pub numbers : Column (λ f. f.page) n b count pages₀ left at i pages
   pub commits : Column (λ f. f.commit) n b count sizes₀ left at i sizes
 
+pub filling_start : {n l : ℕ} {b : List ℕ} {count : ℕ} {pages sizes : List ℕ} → CanListFrames n b count pages sizes → l ≡ n
+    → Filling l b count pages sizes pages sizes 32 0
+filling_start {count = count} g is = rw is record {
+  left = count;
+  counted = zero-add count;
+  within = g.within;
+  numbers = record { long = refl; whole = refl };
+  commits = record { long = refl; whole = refl };
+}
+
 module _ {n : ℕ} {b : List ℕ} {count : ℕ} {pages₀ sizes₀ pages sizes : List ℕ} {at i : ℕ}
     (g : Filling n b count pages₀ sizes₀ pages sizes at i) where
+  -- the next frame is there
+  pub filling_room : i < count → at + n ≤ length b
+  filling_room more = next g.left g.counted g.within
+    where
+      next : (k : ℕ) → i + k ≡ count → at + k * n ≤ length b → at + n ≤ length b
+      next zero e w = absurd (omega arith)
+      next (suc k) e w = omega arith
+
   pub filling_more : {x y : ℕ} → i < count → x ≡ big_endian b at → y ≡ big_endian b (at + 4)
       → Filling n b count pages₀ sizes₀ (set pages i x) (set sizes i y) (at + n) (i + 1)
   unfolding frame_at

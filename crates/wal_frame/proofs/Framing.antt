@@ -1,12 +1,12 @@
 -- The tests of a frame, in the order in which they are made, come to whether it is valid.
 use mathlib.Core.Path.{◌≡◌, refl, sym, ◌∙◌}
-use mathlib.Core.Bool.{Bool, true, false, ◌&&◌}
+use mathlib.Core.Bool.{Bool, true, false, not, ◌&&◌}
 use mathlib.Core.List.{List}
 use Prim.Native.Nat.{ℕ, ◌+◌, ◌-◌, ◌≤◌, ◌<◌}
 use native.Mathlib.Omega.{arith}
 use lib.Dec.{leb}
 use lib.ListN.{length}
-use borrow.Author.Tests.{le-leb, lt-leb, leb-true}
+use borrow.Author.Tests.{le-leb, lt-leb, leb-true, not-true, not-false}
 use Rattle.wal_checksum.specs.Checksum.{same_sums}
 use Rattle.wal_checksum.specs.declared.sums.Sums.{Sums}
 use Rattle.wal_frame.specs.Frame.{frame_length, frame_at, salted, sums_after, valid, next_at}
@@ -28,18 +28,18 @@ module _ (h : Header) (b : List ℕ) (at : ℕ) (s : Sums) where
   next_cut within is short = rw (cut_off (omega arith))
 
   module _ (whole : at + frame_length h ≤ length b) {t : Bool} (tells : t ≡ salted h b at) where
-    pub next_salts : t ≡ false → End ≡ next_at h b at s
+    pub next_salts : not t ≡ true → End ≡ next_at h b at s
     unfolding valid
     next_salts is =
-        let other : salted h b at ≡ false = sym tells ∙ is in
+        let other : salted h b at ≡ false = sym tells ∙ not-true t is in
         rw (le-leb (at + frame_length h) (length b) whole, other)
 
     -- with the log's salts the sums decide
-    pub valid_is : t ≡ true → {f : Frame} {after : Sums} {same : Bool} → f ≡ frame_at b at → after ≡ sums_after h b at s
+    pub valid_is : not t ≡ false → {f : Frame} {after : Sums} {same : Bool} → f ≡ frame_at b at → after ≡ sums_after h b at s
         → same ≡ same_sums after f.sums → valid h b at s ≡ same
     unfolding valid
     valid_is own read summed compares =
-        let salts : salted h b at ≡ true = sym tells ∙ own in
+        let salts : salted h b at ≡ true = sym tells ∙ not-false t own in
         rw (le-leb (at + frame_length h) (length b) whole, salts, ← summed, ← read) (sym compares)
 
   pub next_end : valid h b at s ≡ false → End ≡ next_at h b at s

@@ -3,20 +3,23 @@
 use mathlib.Core.Path.{◌≡◌, refl, sym, ap, subst, ◌∙◌}
 use mathlib.Core.Bool.{Bool, true, false, cond}
 use mathlib.Core.List.{List, []}
-use Prim.Native.Nat.{ℕ, zero, suc, ◌+◌, ◌-◌, ◌≤◌, ◌<◌}
+use Prim.Native.Nat.{ℕ, zero, suc, ◌+◌, ◌-◌, ◌^◌, ◌≤◌, ◌<◌}
 use native.Mathlib.Omega.{arith}
 use lib.Dec.{eqb}
 use lib.ListN.{length}
 use borrow.Author.Tests.{eq-eqb, ne_eqb}
 use Rattle.wal_checksum.specs.declared.sums.Sums.{Sums}
-use Rattle.wal_frame.specs.Frame.{frame_length, frame_at, valid}
-use Rattle.wal_frames.specs.Scan.{frames, start_of, counted, tally, scan_of, scanned, Within, Stepped}
+use Rattle.wal_frame.specs.Frame.{frame_length, frame_at, valid, next_at}
+use Rattle.wal_frames.specs.Scan.{frames, start_of, counted, tally, scan_of, scanned, Countable, Within, Stepped}
 use Rattle.wal_header.specs.Header.{opened}
+use Rattle.wal_header.specs.declared.header.Fault.{Fault}
 use Rattle.wal_header.specs.declared.header.Header.{Header}
-use Rattle.wal_header.specs.declared.header.Opened.TheVariants.{Log}
+use Rattle.wal_header.specs.declared.header.Opened.TheVariants.{Refused, Log}
 use Rattle.wal_frame.specs.declared.frame.Frame.{Frame}
+use Rattle.wal_frame.specs.declared.frame.Next.{Next}
+use Rattle.wal_frame.specs.declared.frame.Next.TheVariants.{End, Valid}
 use Rattle.wal_frames.specs.declared.scanning.Commit.TheVariants.{At}
-use Rattle.wal_frames.specs.declared.scanning.Scanned.TheVariants.{Read}
+use Rattle.wal_frames.specs.declared.scanning.Scanned.TheVariants.{Unread, Read}
 use Rattle.wal_frames.specs.declared.scanning.Summary.{Summary}
 use Rattle.wal_frame.proofs.Framing.{cut_off, valid_whole}
 
@@ -42,6 +45,44 @@ module _ (s : Summary) (f : Frame) {n : ℕ} (long : n ≡ frame_length s.header
       (counted s f)
   unfolding counted
   counted_commit commit = rw (ne_eqb f.commit 0 commit, long)
+
+-- ── one look ─────────────────────────────────────────────────────────────────
+module _ (h : Header) (b : List ℕ) (at : ℕ) (s : Sums) where
+  ended : next_at h b at s ≡ End → valid h b at s ≡ false
+  ended = go (valid h b at s)
+    where
+      go : (t : Bool) → cond t (Valid (frame_at b at)) End ≡ End → t ≡ false
+      go true e = let z : ◌≡◌ {A = ℕ} 0 1 = cc in absurd (omega arith)
+      go false e = refl
+
+  taken : {f : Frame} → next_at h b at s ≡ Valid f → valid h b at s ≡ true
+  taken {f} = go (valid h b at s)
+    where
+      go : (t : Bool) → cond t (Valid (frame_at b at)) End ≡ Valid f → t ≡ true
+      go true e = refl
+      go false e = let z : ◌≡◌ {A = ℕ} 0 1 = cc in absurd (omega arith)
+
+  taken_frame : {f : Frame} → next_at h b at s ≡ Valid f → f ≡ frame_at b at
+  taken_frame {f} = go (valid h b at s)
+    where
+      go : (t : Bool) → cond t (Valid (frame_at b at)) End ≡ Valid f → f ≡ frame_at b at
+      go true e = cc
+      go false e = let z : ◌≡◌ {A = ℕ} 0 1 = cc in absurd (omega arith)
+
+module _ {s : Summary} {b : List ℕ} {next : Next} (is : next ≡ next_at s.header b s.end s.sums) where
+  pub stepped_end : next ≡ End → Stepped s b s false
+  stepped_end e = record { tells = sym (ended _ _ _ _ (sym is ∙ e)); moved = refl }
+
+  module _ {f : Frame} (e : next ≡ Valid f) where
+    pub countable : Within s b → length b < 2 ^ 64 → Countable s
+    countable w small =
+        let whole : s.end + frame_length s.header ≤ length b = valid_whole _ _ _ _ (taken _ _ _ _ (sym is ∙ e)) in
+        record { room = omega arith; few = w.few; fewer = w.fewer }
+
+    pub stepped_valid : {after : Summary} → after ≡ counted s f → Stepped s b after true
+    stepped_valid {after} made =
+        let frame : f ≡ frame_at b s.end = taken_frame s.header b s.end s.sums (sym is ∙ e) in
+        record { tells = sym (taken _ _ _ _ (sym is ∙ e)); moved = rw frame at made }
 
 -- ── the scan ─────────────────────────────────────────────────────────────────
 -- the whole of what follows `from`
@@ -138,5 +179,8 @@ pub whole_scan : (b : List ℕ) {h : Header} {from s : Summary} → from ≡ sta
 whole_scan b {h} start all = rw start at all
 
 module _ (b : List ℕ) where
+  pub scanned_refused : {fault : Fault} → opened b ≡ Refused fault → Unread fault ≡ scanned b
+  scanned_refused is = rw is
+
   pub scanned_read : {h : Header} {s : Summary} → opened b ≡ Log h → s ≡ scan_of h b → Read s ≡ scanned b
   scanned_read is all = rw (is, all)

@@ -3,4 +3,4 @@ use Rattle.soundness.proofs.Ordering.{ordered_low}
 use Rattle.soundness.proofs.index.is_ordered.Goals as goal
 
 pub returns-then-x-least : goal.returns-then-x-least
-returns-then-x-least c = ordered_low c.loop-i.invariant c.loop-i-test.true c.name-x.ensures c.if-x-least.true
+returns-then-x-least c = ordered_low c.loop-i.invariant c.loop-i-test.true c.is_free.ensures c.name-x.ensures c.if-x-least.true

@@ -1,0 +1,2 @@
+mod SizeTests
+mod FieldTests
