@@ -6,7 +6,7 @@ use Prim.Native.Nat.{ℕ}
 use lib.Dec.{eqb}
 use lib.ListN.{length, get_or}
 use borrow.Author.Tests.{eq-eqb, ne_eqb}
-use Rattle.replay_record.specs.Fields.{number, ReadAt, fields, bad, decoded}
+use Rattle.replay_record.specs.Fields.{ReadAt, fields, bad, decoded}
 use Rattle.replay_record.specs.declared.record.Record.{Record}
 use Rattle.replay_record.specs.declared.record.Decoded.TheVariants.{Bad, Good}
 

@@ -4,7 +4,7 @@ use Rattle.bench_calls.proofs.Running.{Running}
 use Rattle.bench_calls.proofs.run_each.Given as goal
 
 abbrev pub invariant-loop-i : goal.invariant-loop-i
-invariant-loop-i l = 
+invariant-loop-i l =
     Running l.initial.slots l.initial.by_key l.initial.by_handle l.initial.marks l.initial.list l.slots l.by_key l.by_handle l.marks l.list l.now l.i l.count
 
 abbrev pub decreases-loop-i : goal.decreases-loop-i

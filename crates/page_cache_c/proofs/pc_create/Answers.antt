@@ -1,5 +1,4 @@
 -- The head is written as the creation says.
-use Rattle.std.proofs.Common.{false}
 use Rattle.page_cache_c.specs.Exports.{makes}
 use Rattle.page_cache_c.proofs.pc_create.Goals as goal
 

@@ -1,5 +1,4 @@
 -- The listing's contract, for the head that was read.
-use Rattle.std.proofs.Common.{false}
 use Rattle.page_cache_c.proofs.Exporting.{lists_read}
 use Rattle.page_cache_c.proofs.pc_list.Goals as goal
 

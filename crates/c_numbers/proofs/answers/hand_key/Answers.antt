@@ -1,5 +1,4 @@
 -- Each return is after the tests that its answer follows from.
-use Rattle.std.proofs.Common.{true, false}
 use Rattle.c_numbers.proofs.Numbers.{no_slot, a_slot, quarter}
 use Rattle.c_numbers.proofs.answers.hand_key.Goals as goal
 

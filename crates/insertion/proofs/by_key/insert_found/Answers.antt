@@ -1,5 +1,4 @@
 -- The record that is loaded is the page's, and it is stale or not.
-use Rattle.std.proofs.Common.{true, false}
 use Rattle.insertion.proofs.Keys.{found_inside, found_replaceable, found_stale, found_present}
 use Rattle.insertion.proofs.by_key.insert_found.Goals as goal
 

@@ -1,5 +1,4 @@
 -- What the mode decides, and then the two handles.
-use Rattle.std.proofs.Common.{true, false}
 use mathlib.Core.Path.{sym, ◌∙◌}
 use Rattle.insertion.proofs.Presents.{present_inside, touched_replaceable, presents_replaced, presents_other, presents_same}
 use Rattle.insertion.proofs.present.present.Goals as goal
@@ -14,7 +13,7 @@ pub replace_at-after-requires : goal.replace_at-after-requires
 replace_at-after-requires c = touched_replaceable c.requires c.touch_at.ensures
 
 pub returns-then-replaces : goal.returns-then-replaces
-returns-then-replaces c = 
+returns-then-replaces c =
     rw c.plain.ensures (presents_replaced c.load.ensures (sym c.replaces.ensures ∙ c.if-replaces.true) c.touch_at.ensures c.replace_at-after.ensures)
 
 pub returns-then-old-asked : goal.returns-then-old-asked
