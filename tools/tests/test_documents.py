@@ -143,22 +143,22 @@ class Documents(unittest.TestCase):
 
     def test_words(self):
         self.none(unknown_words)
-        self.assertEqual(unknown_words('`mayGo`, `mayNotGoAtAll`, `threshold-examples`, `PageRecord::is_nosuch`, `nosuch-examples`'),
-                         ['mayNotGoAtAll', 'is_nosuch', 'nosuch-examples'])
+        self.assertEqual(unknown_words('`may_go`, `may_not_go_at_all`, `threshold_examples`, `PageRecord::is_nosuch`, `nosuch_examples`'),
+                         ['may_not_go_at_all', 'is_nosuch', 'nosuch_examples'])
 
     def test_places(self):
         self.none(misplaced)
-        # `mayGo` is used there, and declared elsewhere
-        self.assertEqual(misplaced('`fresh`, `mayGo` and `enter`\nin `crates/model/specs/Cache.antt`'),
-                         ['mayGo in crates/model/specs/Cache.antt'])
-        self.assertEqual(misplaced('`mayGo` in `crates/page/specs/Cache.antt`'), [])
+        # `may_go` is used there, and declared elsewhere
+        self.assertEqual(misplaced('`fresh`, `may_go` and `enter`\nin `crates/model/specs/Cache.antt`'),
+                         ['may_go in crates/model/specs/Cache.antt'])
+        self.assertEqual(misplaced('`may_go` in `crates/page/specs/Cache.antt`'), [])
         self.assertEqual(misplaced('`fresh` in `crates/nosuch/specs/Cache.antt`'), ['fresh in crates/nosuch/specs/Cache.antt'])
 
     def test_definitions(self):
         self.assertEqual(without_definition(content(RULES)), [])
         self.assertEqual(without_definition('### Rule 8. Deletion\n\nBy `deletable`.\n\n### Rule 9. Lookup\n\nBy `hit`\nin `Rules.antt`.'),
                          ['Rule 8. Deletion'])
-        self.assertEqual(without_definition('| **9** | `keyExists` in `Rules.antt` |\n| **10** | `resized` |'), ['| **10** | `resized` |'])
+        self.assertEqual(without_definition('| **9** | `key_exists` in `Rules.antt` |\n| **10** | `resized` |'), ['| **10** | `resized` |'])
 
     def test_links(self):
         self.none(dead_links)
