@@ -4,7 +4,6 @@ use borrow.Author.Tests.{not-true, not-false}
 use Rattle.memory.specs.Memory.{memory}
 use Rattle.eviction.proofs.Turning.{sweepable, Ended, end_inside, holds_turned}
 use Rattle.eviction.proofs.Demand.{end_stands, end_removable, full_refuses, found_takes}
-use Rattle.memory.specs.Memory.{memory}
 use Rattle.eviction.proofs.evicting.evict_one.Goals as goal
 
 pub sweep-swept-requires : goal.sweep-swept-requires
