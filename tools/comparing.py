@@ -58,14 +58,19 @@ def runner(command):
     return run
 
 
+def said_by_tool(name):
+    """The proved program, which is built if it isn't there."""
+    said = subprocess.run([TOP / 'tools/program', name], stdout=subprocess.PIPE, text=True, check=False)
+    if said.returncode:
+        sys.exit(said.returncode)
+    return pathlib.Path(said.stdout.rstrip('\n'))
+
+
 def command_of(name, program):
-    program = program.resolve()
+    program = program.resolve() if program else said_by_tool(name)
     if not os.access(program, os.X_OK) or not program.is_file():
-        give_up(f"{program} is not there; 'rt check {name}' proves and builds target/bin/{name}")
-    if program != TOP / 'target/bin' / name:
-        return [program]
-    words = subprocess.run([TOP / 'tools/program', name], stdout=subprocess.PIPE, text=True, check=True).stdout
-    return words.splitlines()
+        give_up(f"{program} is not there; 'rt run' in crates/{name} proves and builds crates/{name}/out/{name}")
+    return [program]
 
 
 def asked_for(name):
@@ -73,7 +78,7 @@ def asked_for(name):
     parser = argparse.ArgumentParser(prog=f'tools/{tool()}')
     parser.add_argument('--all', action='store_true', dest='everything', help="all cases, not the gate's share")
     parser.add_argument('--seed', type=int, default=1, metavar='N')
-    parser.add_argument('program', nargs='?', type=pathlib.Path, default=TOP / 'target/bin' / name)
+    parser.add_argument('program', nargs='?', type=pathlib.Path)
     options = parser.parse_args()
     run = runner(command_of(name, options.program))
     if not shutil.which('sqlite3'):

@@ -1,4 +1,4 @@
-/* The proved page cache, for C. Link libpage_cache_c.a, which tools/library makes, for Linux on x86-64 or Arm (aarch64).
+/* The proved page cache, for C. Link libpage_cache_c.a, which tools/library makes, for Linux on x86-64.
  *
  * The four functions are total: any lengths and any contents of what they are lent get a defined answer, and a refusal alters
  * nothing but what its code says. What each does, to the last word, is its contract in crates/page_cache_c/specs/Exports.antt, and

@@ -3,12 +3,8 @@ use std::path::PathBuf;
 
 fn main() {
     println!("cargo:rerun-if-env-changed=PAGE_CACHE_LIBRARY");
-    let made = match std::env::var("CARGO_CFG_TARGET_ARCH").as_deref() {
-        Ok("aarch64") => "../../target/staticlib/aarch64/libpage_cache_c.a",
-        _ => "../../target/staticlib/libpage_cache_c.a",
-    };
-    let library = std::env::var_os("PAGE_CACHE_LIBRARY")
-        .map_or_else(|| PathBuf::from(env!("CARGO_MANIFEST_DIR")).join(made), PathBuf::from);
+    let made = PathBuf::from(env!("CARGO_MANIFEST_DIR")).join("../../crates/page_cache_c/out/libpage_cache_c.a");
+    let library = std::env::var_os("PAGE_CACHE_LIBRARY").map_or(made, PathBuf::from);
     println!("cargo:rerun-if-changed={}", library.display());
     assert!(library.is_file(), "{} is not there: tools/library makes it", library.display());
     let folder = library.parent().expect("the library is in a folder");
