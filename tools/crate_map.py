@@ -14,8 +14,8 @@ KIT = {'bytes', 'check', 'io', 'libc', 'os'}
 NO_CODE = {'.rt': r"""b'(?:\\.|[^'\\])+'|"(?:\\.|[^"\\])*"|//[^\n]*""", '.antt': r'\{-.*?-\}|(?:^|(?<=\s))--[^\n]*'}
 
 Group = collections.namedtuple('Group', 'heading crates')
-# A crate's name, what it is, and what its line lists, in that order.
-Crate = collections.namedtuple('Crate', 'name about lists')
+# A crate's name, what it is, and what its line lists, in that order; and 'staticlib' if it is a library for C and Rust, and else nothing.
+Crate = collections.namedtuple('Crate', 'name about lists kind', defaults=[''])
 
 
 def groups(top=TOP):
@@ -23,11 +23,12 @@ def groups(top=TOP):
     found, about = [], []
     with open(os.path.join(top, 'crates.txt'), encoding='utf-8') as file:
         for number, line in enumerate(file, 1):
-            name, colon, lists = line.partition('#')[0].partition(':')
+            first, colon, lists = line.partition('#')[0].partition(':')
+            name, _, kind = first.strip().partition(' ')
             if colon:
                 if not found or not about:
                     raise ValueError(f"crates.txt, line {number}: {name} needs a heading '## ..' and, right above it, '# what it is'")
-                found[-1].crates.append(Crate(name.strip(), ' '.join(about), lists.split()))
+                found[-1].crates.append(Crate(name, ' '.join(about), lists.split(), kind.strip()))
             elif line.startswith('## '):
                 found.append(Group(line[3:].strip(), []))
             about = about + [line[1:].strip()] if line.startswith('# ') else []
@@ -113,7 +114,7 @@ class Sources:
     def named(self, name):
         """The crates that the crate's files name."""
         clauses = [*self.code[name], *_texts(self.top, name, 'specs', '.antt'), *_texts(self.top, name, 'proofs', '.antt')]
-        libraries = {word for text in clauses for word in re.findall(r'Rattle·(\w+)', text)}
+        libraries = {word for text in clauses for word in re.findall(r'Rattle\.(\w+)', text)}
         return {first for first, _ in self.paths[name]} | (libraries & (KIT | {*self.crates})) - {name}
 
     def _declaring(self, types, name):
@@ -145,7 +146,7 @@ class Sources:
         for file in sorted(os.listdir(folder) if os.path.isdir(folder) else []):
             with open(os.path.join(folder, file), encoding='utf-8') as edit:
                 new = ''.join(line for line in edit if line.startswith('new:'))
-            words = {*re.findall(r'Rattle·(\w+)', new), *(first for first, _ in _paths(new))}
+            words = {*re.findall(r'Rattle\.(\w+)', new), *(first for first, _ in _paths(new))}
             yield file, sorted(word for word in words if self._is_other(word, name))
 
     def faults(self):
@@ -156,7 +157,7 @@ class Sources:
             # from the nearest down to the ground, and then the kit's
             line = sorted(cites, key=lambda other: (-place.get(other, -1), other))
             if crate.lists != line:
-                yield f"crates.txt: by its files the line of {name} is '{' '.join([name + ':', *line])}'"
+                yield f"crates.txt: by its files the line of {name} is '{' '.join([f'{name} {crate.kind}'.strip() + ':', *line])}'"
             yield from (f'crates.txt: {name} stands above {other}, which it cites' for other in line if place.get(other, -1) > place[name])
             yield from (f'crates/{name}/must-fail/{file} names {other}, which {name} does not list: it is refused for that name'
                         for file, others in self.in_edits(name) for other in others if other not in line)
