@@ -1,4 +1,4 @@
-"""Tests of tools/proof-skeleton and tools/proof-paths, on what rt says and makes, cut short. rt itself is not run."""
+"""Tests of tools/proof-skeleton and tools/proof-paths, on what rt says, cut short. rt itself is not run."""
 
 import contextlib
 import io
@@ -10,187 +10,113 @@ import unittest
 from unittest import mock
 
 import sharing
-import rt_dev
+import rt_check
 
 SKELETON = sharing.loaded(os.path.join(sharing.TOOLS, 'proof-skeleton'))
 PATHS = sharing.loaded(os.path.join(sharing.TOOLS, 'proof-paths'))
 
-# A function with a loop, whose needs rt has not tried, and one without, of which the search has closed all but one.
+# A function with a loop that has no file, one whose file has a goal that is left, and one that calls the first.
 SAID = '''\
-note: crates/sums/src/lib.rt:30:5: it is not proved that what `expect` requires holds at this call (`expect-requires`)
-fn sums::total: no proof: expected `total-spec` in crates/sums/proofs/total/Proof.antt
-fn sums::main: no proof: expected `main-spec` in crates/sums/proofs/adding/main/Proof.antt; `search` does not close `expect-requires`
-help: write crates/sums/proofs/total/Proof.antt with these lines, and check again: each hole asks for a measure
-    use Rattle·sums·proofs.proofs.total.Statement.{statement}
-    use Rattle·sums·proofs.proofs.total.Tie as tie
-
-    abbrev Inv-loop : tie.InvT-loop
-    Inv-loop a sum₀ i₀ sum i = ?
-
-    abbrev μ-loop : tie.MeasureT-loop
-    μ-loop a sum₀ i₀ sum i = ?
-
-    -- src/lib.rt:16:5
-    loop-holds : tie.Need-loop-holds Inv-loop μ-loop
-    loop-holds c = ?
-
-    -- src/lib.rt:18:9
-    put-requires : tie.Need-put-requires Inv-loop μ-loop
-    put-requires c κs = ?
-
-    pub total-spec : {M : Type 1} → statement M
-    total-spec = tie.close (tie.spec Inv-loop μ-loop loop-holds put-requires)
-help: write ./crates/sums/proofs/adding/main/Proof.antt with these lines, and check again: each hole asks for a measure
-    use borrow.Author.Needs.{needs}
-    use Rattle·sums·proofs.proofs.adding.main.Statement.{statement}
-    use Rattle·sums·proofs.proofs.adding.main.Tie as tie
-
-    -- src/lib.rt:29:19
-    total-requires : tie.Need-total-requires
-    total-requires c κs = search needs
-
-    -- src/lib.rt:30:5
-    expect-requires : tie.Need-expect-requires
-    expect-requires c κs = ?
-
-    pub main-spec : {M : Type 1} → statement M
-    main-spec = tie.close (tie.spec total-requires expect-requires)
+fn sums::put: proved
+fn sums::total: no proof: expected a measure in ./proofs/total/Invariants.antt
+fn sums::subtotal: not proved: `Rattle.sums.proofs.subtotal.Answers.returns`
+fn sums::adding::main: no proof: the borrow checker's part in its proof is not made yet: a call of `sums::total`, which has no proof
+help: write ./proofs/total/Invariants.antt with these lines, and check again: each hole asks for a measure or an invariant
+    abbrev pub invariant-loop-i : goal.invariant-loop-i
+    invariant-loop-i l = ?
 logic=not-proved
 '''
 
-TOTAL = '''\
-use borrow.Author.Needs.{needs}
-use Rattle·sums·proofs.proofs.total.Statement.{statement}
-use Rattle·sums·proofs.proofs.total.Tie as tie
-
-abbrev Inv-loop : tie.InvT-loop
-Inv-loop a sum₀ i₀ sum i = ?
-
-abbrev μ-loop : tie.MeasureT-loop
-μ-loop a sum₀ i₀ sum i = ?
-
-loop-holds : tie.Need-loop-holds Inv-loop μ-loop
-loop-holds c = search needs
-
-put-requires : tie.Need-put-requires Inv-loop μ-loop
-put-requires c κs = search needs
-
-pub total-spec : {M : Type 1} → statement M
-total-spec = tie.close (tie.spec Inv-loop μ-loop loop-holds put-requires)
+STARTED = '''\
+rt: chose --jobs 2 for sums
+wrote ./proofs/total/Invariants.antt
+wrote ./proofs/total/Answers.antt
+wrote ./proofs/adding/main/Answers.antt
+started=2
 '''
 
-MAIN = '''\
-use borrow.Author.Needs.{needs}
-use Rattle·sums·proofs.proofs.adding.main.Statement.{statement}
-use Rattle·sums·proofs.proofs.adding.main.Tie as tie
+ANSWERS = '''\
+use Rattle.sums.proofs.total.Goals as goal
 
-expect-requires : tie.Need-expect-requires
-expect-requires c κs = ?
+-- src/lib.rt:16:5
+pub loop-i-init : goal.loop-i-init
+loop-i-init c = ?
 
-pub main-spec : {M : Type 1} → statement M
-main-spec = tie.close (tie.spec (λ c κs. search needs) expect-requires)
+-- src/adding.rt:3:1
+pub returns : goal.returns
+returns c = ?
 '''
 
-# What rt makes of a function that tests its memory, and then is refused or calls another. It has much else between these lines.
-LTS = '''\
-        pub record Args : Type 0 where
-          pub list : Kinds.Den {n = 5}
-              κs
-              (MutSlice.pMutS (Referent.rtF (Referent.fInt Syntax.w32)) 4 tt)
-
-      pub record Start : Type 0 where
-        pub κs : Lifetimes.Lfts 5
-        pub args : Args κs
-        pub good : Kinds.GoodsP κs ps (dens κs args)
-
-      module _ (before· : Start) where
-        pub record After-slice-known·own : Type 0 where
-          pub given : s0 .gives (m0 (before· .κs) (before· .args))
-
-      pub record After-slice-known : Type 0 where
-        pub before : Start
-        pub slice-known : After-slice-known·own before
-
-      abbrev pub Need-is-sound-requires : Type 0
-      Need-is-sound-requires =
-          (c : After-slice-known) → s5 .asks (m5 (c .before) (c .slice-known .given))
-
-      module _ (before· : After-slice-known) where
-        abbrev pub After-is-sound·own : Type 0
-        After-is-sound·own = Called.Called ps·0 r·0 (claims· .1) T9 (
-          record { pos = 18; st = List.[]; d = 0; at = λ x. x },
-        )
-
-      pub record After-is-sound : Type 0 where
-        pub before : After-slice-known
-        pub is-sound : After-is-sound·own before
-
-      module _ (before· : After-is-sound) where
-        pub record Then1·own : Type 0 where
-          pub taken : Path'._≡_
-              (Row.get 17 (T38 .locals) (m24 (before· .before) (After-is-sound·gave before·)))
-              Bool'.true
-
-      pub record Then1 : Type 0 where
-        pub before : After-is-sound
-        pub if1 : Then1·own before
-
-      abbrev pub Need-plain-requires : Type 0
-      Need-plain-requires = (c : Then1) → s10 .asks (m10 (c .before))
-
-      abbrev pub Need-returns : Type 0
-      Need-returns =
-          (c : Then1) →
-          Post·
-
-      module _ (before· : After-is-sound) where
-        pub record Else1·own : Type 0 where
-          pub left : Path'._≡_
-
-      pub record Else1 : Type 0 where
-        pub before : After-is-sound
-        pub if1 : Else1·own before
-
-      abbrev pub Need-returns-2 : Type 0
-      Need-returns-2 =
-          (c : Else1) → Post·
+# What is said of goals without a file, and of a choice that is the author's.
+MISSING = '''\
+fn sums::total: no proof: expected answers in ./proofs/total/Answers.antt; `search` did not prove `put-requires`, `returns`
+help: write ./proofs/total/Answers.antt with these lines, and check again: each hole's goal is what is left to show there
+    pub returns : goal.returns
+    returns c = ?
+note: `invariant-loop-i` of proofs/total/Invariants.antt is yours to choose
+  names you can use, by step:
+  | l: .log
+  | l.initial: .log
+note: `put-requires` of proofs/total/Answers.antt must prove: 3 ≤ length c.args.list.now
+  names you can use, by step:
+  | c: .lifetimes, .requires
+  | c.args: .list {.ref_ptr, .now}
+  | c.put: .result, .ensures
+  | c.type_inv: .list
+note: `returns` of proofs/total/Answers.antt must prove: c.put.result ≡ 0
+  names you can use, by step:
+  | as in `put-requires` above, as far as c.args
+  | c.if-list: .true
+note: `returns-2` of proofs/total/Answers.antt must prove: c.put.result ≡ 1
+  names you can use, by step:
+  | as in `returns` above, as far as c.if-list
+  | c.if-sum: .false
+note: `search` does not look into `sum` of ./specs/Sums.antt
+only=1 proved=0
 '''
 
-LISTED = '''\
-is-sound-requires: c is After-slice-known
-   0  After-slice-known  given         c .slice-known
-   1  Start              κs args good  c .before
-plain-requires, returns: c is Then1
-   0  Then1              taken                     c .if1
-   1  After-is-sound     result last kept ensures  c .before .is-sound
-   2  After-slice-known  given                     c .before .before .slice-known
-   3  Start              κs args good              c .before .before .before
-returns-2: c is Else1
-   0  Else1              left                      c .if1
-   1  After-is-sound     result last kept ensures  c .before .is-sound
-   2  After-slice-known  given                     c .before .before .slice-known
-   3  Start              κs args good              c .before .before .before
+# The same of goals that have holes in a file.
+HOLES = '''\
+./proofs/total/Answers.antt:6:5: `put-requires` is not admitted: has-holes
+./proofs/total/Answers.antt:7:17: goal ? in `put-requires`
+    c : goal.In-loop-i
+  ⊢ 3
+      ≤ length c.args.list.now
+  names you can use, by step:
+    c: .lifetimes, .requires
+    c.args: .list {.ref_ptr, .now}
+  the newest fields, with their types:
+    c.requires : 32 ≤ length c.args.list.now
+./proofs/total/Answers.antt:9:5: `returns` is not admitted: has-holes
+./proofs/total/Answers.antt:10:13: goal ?left in `returns`
+    c : goal.Then-list
+  ⊢ c.put.result ≡ 0
+  names you can use, by step:
+    as in `put-requires` above, as far as c
+    c.if-list: .true
+fn sums::total: depends on a hole in `Rattle.sums.proofs.total.Answers.returns`
+only=1 holes=2
 '''
 
 
-def rt_that(writes=(), says='', status=0):
-    """'rt dev' that says this, and writes an Lts for each of these functions where it is told to."""
+def rt_that(*runs, asked=None):
+    """'rt check' that says these one after another, and ends with these statuses. What it is asked is noted."""
+    left = list(runs)
+
     def run(crate, *words):
-        for function in writes:
-            folder = os.path.join(words[1], f'Rattle·{crate}·proofs', 'proofs', function)
-            os.makedirs(folder)
-            with open(os.path.join(folder, 'Lts.antt'), 'w', encoding='utf-8') as file:
-                file.write(LTS)
+        if asked is not None:
+            asked.append((crate, *words))
+        says, status = left.pop(0)
         return subprocess.CompletedProcess(['rt'], status, says)
     return run
 
 
-def ran(tool, *words, run=rt_that(), top=rt_dev.TOP):
+def ran(tool, *words, run=rt_that(), top=rt_check.TOP):
     """Status, what was written, and what was said, of the tool with these words. It runs in this process."""
     out, err = io.StringIO(), io.StringIO()
     status = 0
-    with mock.patch.object(sys, 'argv', [tool.__name__, *words]), mock.patch.object(rt_dev, 'run', run), \
-            mock.patch.object(rt_dev, 'TOP', top), contextlib.redirect_stdout(out), contextlib.redirect_stderr(err):
+    with mock.patch.object(sys, 'argv', [tool.__name__, *words]), mock.patch.object(rt_check, 'run', run), \
+            mock.patch.object(rt_check, 'TOP', top), contextlib.redirect_stdout(out), contextlib.redirect_stderr(err):
         try:
             tool.main()
         except SystemExit as end:
@@ -200,112 +126,110 @@ def ran(tool, *words, run=rt_that(), top=rt_dev.TOP):
 
 
 class Skeleton(unittest.TestCase):
-    def test_files(self):
-        self.assertEqual([path for path, _ in SKELETON.printed(SAID)],
-                         ['crates/sums/proofs/total/Proof.antt', 'crates/sums/proofs/adding/main/Proof.antt'])
-        self.assertEqual(list(SKELETON.printed('fn sums::total: proved\nlogic=proved\n')), [])
-
-    def test_loop(self):
-        """All needs are to be tried, and the invariant and the measure are left."""
-        (_, text), _ = SKELETON.printed(SAID)
-        self.assertEqual(SKELETON.skeleton(text), TOTAL)
-        # a loop over one local, which has the name that a need's argument has
-        begun = 'Inv-loop c = ?\nμ-loop c = ?\nadd-c c = {}\n'
-        self.assertEqual(SKELETON.skeleton(begun.format('?')), f'{SKELETON.NEEDS}\n' + begun.format('search needs'))
-
-    def test_no_loop(self):
-        """What the search has closed stands in the tie's call, and what it has not stays a hole."""
-        _, (_, text) = SKELETON.printed(SAID)
-        self.assertEqual(SKELETON.skeleton(text), MAIN)
-
-    def test_long_call(self):
-        """Equal answers stand together, and names do, as far as a line goes."""
-        need = '{0} : tie.Need-{0}\n{0} {1} = {2}\n\n'
-        needs = [(f'same-length-{i}', 'c', 'search needs') for i in range(2, 10)] + [('sum-requires', 'c κs', 'search needs')]
-        needs += [('returns', 'c', 'c .sum .ensures')]
-        text = ''.join(need.format(*words) for words in needs)
-        text += f'sum-spec =\n    tie.close\n    (tie.spec\n    {" ".join(words[0] for words in needs)})\n'
-        self.assertEqual(SKELETON.inlined(text), need.format(*needs[-1]) + 'sum-spec =\n    tie.close\n    (tie.spec\n'
-                         + '   ' + ' (λ c. search needs)' * 6 + '\n   ' + ' (λ c. search needs)' * 2 + ' (λ c κs. search needs) returns)\n')
-        self.assertEqual(SKELETON.lines_of(['returns', 'b' * 125, 'evict-requires', '(λ c. search needs)']),
-                         ['    returns', f'    {"b" * 125}', '    evict-requires (λ c. search needs)'])
-        self.assertEqual(SKELETON.lines_of(['evict-requires', *['(λ c. search needs)'] * 6]),
-                         ['    evict-requires', '   ' + ' (λ c. search needs)' * 6])
-
-    def test_nothing_searched(self):
-        text = 'sum-spec =\n    tie.close\n    (tie.spec\n    sum-requires\n    returns)\n'
-        self.assertEqual(SKELETON.inlined(text), text)
-
-    def test_by_hand(self):
-        """A function that has no needs is proved by hand."""
-        text = 'use Rattle·sums·proofs.proofs.count.Statement.{statement}\n\ncount-spec 𝓤 H 𝓜 𝓖 𝓡 = ?\n'
-        self.assertEqual(SKELETON.skeleton(text), text)
-
     def test_written(self):
+        """Each function that lacks a file is started, all at once, and the lines of places go."""
         with tempfile.TemporaryDirectory() as top:
-            kept = os.path.join(top, 'crates/sums/proofs/adding/main')
-            os.makedirs(kept)
-            with open(os.path.join(kept, 'Proof.antt'), 'w', encoding='utf-8') as file:
-                file.write('a proof')
-            # rt says whole paths, too
-            said = SAID.replace('write crates/', f'write {top}/crates/')
-            self.assertEqual(ran(SKELETON, 'sums', run=rt_that(says=said, status=1), top=top),
-                             (0, 'crates/sums/proofs/total/Proof.antt\n', ''))
-            with open(os.path.join(top, 'crates/sums/proofs/total/Proof.antt'), encoding='utf-8') as file:
-                self.assertEqual(file.read(), TOTAL)
-            with open(os.path.join(kept, 'Proof.antt'), encoding='utf-8') as file:
-                self.assertEqual(file.read(), 'a proof')
+            paths = [f'crates/sums/proofs/{path}' for path in ('total/Invariants.antt', 'total/Answers.antt', 'adding/main/Answers.antt')]
+            for path in paths:
+                os.makedirs(os.path.dirname(os.path.join(top, path)), exist_ok=True)
+                with open(os.path.join(top, path), 'w', encoding='utf-8') as file:
+                    file.write(ANSWERS)
+            asked = []
+            self.assertEqual(ran(SKELETON, 'sums', run=rt_that((SAID, 1), (STARTED, 0), asked=asked), top=top),
+                             (0, ''.join(f'{path}\n' for path in paths), ''))
+            self.assertEqual(asked, [('sums',), ('sums', '--start', 'total', '--start', 'adding::main')])
+            with open(os.path.join(top, paths[1]), encoding='utf-8') as file:
+                self.assertEqual(file.read(), ANSWERS.replace('-- src/lib.rt:16:5\n', '').replace('-- src/adding.rt:3:1\n', ''))
 
     def test_nothing_to_write(self):
-        self.assertEqual(ran(SKELETON, 'sums', run=rt_that(says='logic=proved\n')), (0, '', 'sums: every function is proved\n'))
+        self.assertEqual(ran(SKELETON, 'sums', run=rt_that(('fn sums::total: proved\nlogic=proved\n', 0))),
+                         (0, '', 'sums: every function is proved\n'))
 
     def test_other_faults_are_shown(self):
         said = "src/lib.rt:3:1: error: expected ';'\n"
-        self.assertEqual(ran(SKELETON, 'sums', run=rt_that(says=said, status=1)),
-                         (1, '', said + 'sums: rt prints no file that is not there'))
+        self.assertEqual(ran(SKELETON, 'sums', run=rt_that((said, 1))), (1, '', said + 'sums: no function lacks a proof file'))
+
+    def test_no_start(self):
+        for said, status in ('rattle: error: two functions\n', 2), ('started=2\n', 0):
+            self.assertEqual(ran(SKELETON, 'sums', run=rt_that((SAID, 1), (said, status))),
+                             (1, '', f"{said}sums: 'rt check --start' did not end well, or wrote no file"))
 
 
 class Paths(unittest.TestCase):
-    def test_needs(self):
-        self.assertEqual(ran(PATHS, 'sums', 'total', run=rt_that(['total'])), (0, LISTED, ''))
+    def goals(self, said, *words):
+        asked = []
+        status, out, err = ran(PATHS, 'sums', 'total', *words, run=rt_that((said, 1), asked=asked))
+        self.assertEqual((status, err, asked), (0, '', [('sums', '--only', 'total', '--allow-holes')]))
+        return out
 
-    def test_one_need(self):
-        last = LISTED[LISTED.index('returns-2'):]
-        self.assertEqual(ran(PATHS, 'sums', 'total', 'returns-2', run=rt_that(['total'])), (0, last, ''))
+    def test_goals(self):
+        """All that is said of goals and nothing else, with what another goal has too written out."""
+        begin, end = MISSING.index('note: `invariant'), MISSING.index('note: `search`')
+        both = '  | c: .lifetimes, .requires\n  | c.args: .list {.ref_ptr, .now}\n'
+        self.assertEqual(self.goals(MISSING), MISSING[begin:end]
+                         .replace('  | as in `put-requires` above, as far as c.args\n', both)
+                         .replace('  | as in `returns` above, as far as c.if-list\n', f'{both}  | c.if-list: .true\n'))
 
-    def test_no_such_need(self):
-        self.assertEqual(ran(PATHS, 'sums', 'total', 'returns-3', run=rt_that(['total'])),
-                         (1, '', 'total: returns-3 is none of its needs: is-sound-requires, plain-requires, returns, returns-2'))
+    def test_one_goal(self):
+        self.assertEqual(self.goals(MISSING, 'returns-2'), '''\
+note: `returns-2` of proofs/total/Answers.antt must prove: c.put.result ≡ 1
+  names you can use, by step:
+  | c: .lifetimes, .requires
+  | c.args: .list {.ref_ptr, .now}
+  | c.if-list: .true
+  | c.if-sum: .false
+''')
 
-    def test_function(self):
-        names = ['adding/total', 'summing/total', 'summing/subtotal', '+sort']
-        self.assertEqual([PATHS.chosen(names, name) for name in ('subtotal', 'adding/total', '+sort')],
-                         ['summing/subtotal', 'adding/total', '+sort'])
-        for name, words in (('total', 'several functions: adding/total, summing/total$'), ('sum', 'no function of that name')):
-            with self.assertRaisesRegex(ValueError, words):
-                PATHS.chosen(names, name)
-        self.assertEqual(ran(PATHS, 'sums', 'main', run=rt_that(['adding/total'])),
-                         (1, '', 'sums: main: no function of that name has needs; those that have: adding/total'))
+    def test_holes(self):
+        self.assertEqual(self.goals(HOLES, 'returns'), '''\
+./proofs/total/Answers.antt:10:13: goal ?left in `returns`
+    c : goal.Then-list
+  ⊢ c.put.result ≡ 0
+  names you can use, by step:
+    c: .lifetimes, .requires
+    c.if-list: .true
+''')
+        self.assertEqual(list(PATHS.blocks(HOLES)), ['put-requires', 'returns'])
+        self.assertIn('    c.requires : 32 ≤ length c.args.list.now\n', self.goals(HOLES))
 
-    def test_nothing_made(self):
-        said = "src/lib.rt:3:1: error: expected ';'\n"
-        self.assertEqual(ran(PATHS, 'sums', 'total', run=rt_that(says=said, status=1)), (1, '', said + 'sums: rt has made no file Lts'))
+    def test_no_such_goal(self):
+        self.assertEqual(ran(PATHS, 'sums', 'total', 'returns-3', run=rt_that((HOLES, 1))),
+                         (1, '', 'total: returns-3 is none of its open goals: put-requires, returns'))
+
+    def test_none_is_open(self):
+        self.assertEqual(ran(PATHS, 'sums', 'total', run=rt_that(('only=1 holes=0\n', 0))), (0, '', 'total: no goal is open\n'))
+
+    def test_nothing_said(self):
+        said = "rattle: error: `sums` has no function `totel`\n"
+        self.assertEqual(ran(PATHS, 'sums', 'totel', run=rt_that((said, 2))), (1, '', said + 'sums: rt prints no goal of totel'))
 
 
 class Words(unittest.TestCase):
     def test_bad_words(self):
         for tool, usage, bad in ((SKELETON, 'tools/proof-skeleton CRATE', ([], ['--all'], ['one', 'two'])),
-                                 (PATHS, 'tools/proof-paths CRATE FUNCTION [NEED]', ([], ['one'], ['one', '-a'], ['a', 'b', 'c', 'd']))):
+                                 (PATHS, 'tools/proof-paths CRATE FUNCTION [GOAL]', ([], ['one'], ['one', '-a'], ['a', 'b', 'c', 'd']))):
             for words in bad:
                 self.assertEqual(ran(tool, *words), (2, '', f'usage: {usage}\n'), words)
 
     def test_no_crate(self):
         with self.assertRaisesRegex(SystemExit, 'nosuch: there is no crate of that name'):
-            rt_dev.run('nosuch')
+            rt_check.run('nosuch')
 
     def test_no_kit(self):
         with mock.patch.dict(os.environ, {'PATH': ''}), self.assertRaisesRegex(SystemExit, 'rt is not on the path'):
-            rt_dev.run('pool')
+            rt_check.run('pool')
+
+    def test_in_the_crates_folder(self):
+        """rt is run where the crate stands, with the words and no input, and all that it writes is taken."""
+        with tempfile.TemporaryDirectory() as top:
+            os.makedirs(os.path.join(top, 'crates/sums'))
+            rt = os.path.join(top, 'rt')
+            with open(rt, 'w', encoding='utf-8') as file:
+                file.write('#!/bin/sh\npwd\necho "$@"\necho said >&2\ncat\nexit 3\n')
+            os.chmod(rt, 0o755)
+            with mock.patch.dict(os.environ, {'PATH': f"{top}:{os.environ['PATH']}"}):
+                run = rt_check.run('sums', '--only', 'total', top=top)
+            self.assertEqual((run.returncode, run.stdout), (3, f'{os.path.realpath(top)}/crates/sums\ncheck --only total\nsaid\n'))
 
 
 if __name__ == '__main__':
