@@ -41,7 +41,7 @@ class Words:
     def test_no_program(self):
         run = self.command(f'/nosuch/{self.program}')
         self.assertEqual((run.returncode, run.stdout), (1, ''))
-        self.assertIn(f"/nosuch/{self.program} is not there; 'rt check {self.program}' proves and builds", run.stderr)
+        self.assertIn(f"/nosuch/{self.program} is not there; 'rt run' in crates/{self.program} proves and builds", run.stderr)
 
     def test_bad_words(self):
         for words in (['--some'], ['--seed', 'x'], ['one', 'two']):
