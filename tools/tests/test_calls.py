@@ -40,7 +40,7 @@ ARMS = [(operation.number, BELOW_THE_PUBLIC_CALL.get(operation.function, operati
 CAMEL_OPERATIONS = [operation.camel() for operation in OPERATIONS]
 CAMEL_ANSWERS = [(answer.camel(), answer.number) for answer in ANSWERS]
 EXPLAINED = [(f'**{answer.number}**', f'`{answer.name}`', answer.when, answer.value, answer.leaves) for answer in ANSWERS]
-VALUES = [(answer.camel(), 'v' if answer.name == 'done' else 'k .0' if answer.gives_key else '0') for answer in ANSWERS]
+VALUES = [(answer.camel(), 'v' if answer.name == 'done' else 'k.0' if answer.gives_key else '0') for answer in ANSWERS]
 
 
 # ── what they say ────────────────────────────────────────────────────────────
@@ -59,8 +59,8 @@ def requests(text):
     for entry in entries[:-1]:
         call = re.fullmatch(r'call \((.*)\)', entry)
         call = call[1] if call else entry
-        constructor = re.match('[a-z -]*[a-z]', call.removesuffix(' places').split(' (')[0])[0]
-        found.append((constructor, re.findall(r'\(r \.([a-z]+)', call), call.endswith(' places')))
+        constructor = re.match('[a-z_ ]*[a-z]', call.removesuffix(' places').split(' r.')[0])[0]
+        found.append((constructor, re.findall(r' r\.([a-z]+)', call), call.endswith(' places')))
     return found
 
 
@@ -84,7 +84,7 @@ def equations(name, text):
 
 
 def code_equations(text):
-    return [(case, int(code)) for case, code in equations('codeOf', text)]
+    return [(case, int(code)) for case, code in equations('code_of', text)]
 
 
 def public_calls(text):
@@ -151,12 +151,11 @@ DIFFERENCES, RULES = 'docs/DIFFERENCES.md', 'docs/RULES.md'
 # Of each place: its file, what reads it, what that has to find; and faults, each a text that stands there once and another one.
 PLACES = {
     'requests': (REQUEST, requests, REQUESTS, [
-        ('    ∷ call (evict-one places)\n', ''),
-        ('call (peek (r .key .0) (r .option))\n    ∷ call (delete (r .key .0) places)',
-         'call (delete (r .key .0) places)\n    ∷ call (peek (r .key .0) (r .option))'),
-        ('call (truncate (r .number) places)', 'call (remove-frames (r .number) places)'),
-        ('call (switch (r .option))', 'call (switch (r .key))'),
-        ('call (clear (r .option) places)', 'call (clear (r .option))'),
+        ('    ∷ call (evict_one places)\n', ''),
+        ('call (peek r.key.0 r.option)\n    ∷ call (delete r.key.0 places)', 'call (delete r.key.0 places)\n    ∷ call (peek r.key.0 r.option)'),
+        ('call (truncate r.number places)', 'call (remove_frames r.number places)'),
+        ('call (switch r.option)', 'call (switch r.key)'),
+        ('call (clear r.option places)', 'call (clear r.option)'),
     ]),
     'arms of dispatch': (DISPATCH, arms, ARMS, [
         ('        5 => peek', '        6 => peek'),
@@ -168,13 +167,13 @@ PLACES = {
         (f'{len(OPERATIONS)}..=255', f'{len(OPERATIONS) + 1}..=255'),
     ]),
     'codes of answers': (ANSWER, code_equations, CAMEL_ANSWERS, [
-        ('codeOf Full = 8\n', 'codeOf Full = 9\n'),
-        ('codeOf (Dirty k) = 6', 'codeOf (Pinned k) = 6'),
-        ('codeOf NoneSelected = 19\n', ''),
+        ('code_of Full = 8\n', 'code_of Full = 9\n'),
+        ('code_of (Dirty k) = 6', 'code_of (Pinned k) = 6'),
+        ('code_of NoneSelected = 19\n', ''),
     ]),
-    'values of answers': (ANSWER, lambda text: equations('valueOf', text), VALUES, [
-        ('valueOf (Pinned k) = k .0', 'valueOf (Pinned k) = 0'),
-        ('valueOf Full = 0', 'valueOf Full = 1'),
+    'values of answers': (ANSWER, lambda text: equations('value_of', text), VALUES, [
+        ('value_of (Pinned k) = k.0', 'value_of (Pinned k) = 0'),
+        ('value_of Full = 0', 'value_of Full = 1'),
     ]),
     'operations of the oracle': (ORACLE, oracle_operations, CAMEL_OPERATIONS, [
         ('    Get,\n    Peek,\n', '    Peek,\n    Get,\n'),

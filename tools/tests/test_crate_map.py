@@ -7,7 +7,7 @@ import unittest
 import sharing  # by which the tools' folder is searched for modules
 import crate_map
 
-# A repository of four crates whose map is true.
+# A repository of five crates whose map is true.
 CRATES = '''# A map.
 
 ## The ground
@@ -24,14 +24,17 @@ entries: keys
 calls: entries keys
 # the program
 show: calls entries keys io
+# for C
+calls_c staticlib: calls entries keys
 '''
 FILES = {
     'keys/src/lib.rt': '// calls::get is only spoken of\npub struct Key(u32);\npub fn first() -> Key { Key(0) }\n',
     'entries/src/lib.rt': 'mod show;\nuse keys::Key;\npub use show::look;\npub enum Entry {\n    Held(Key),\n    Free,\n}\n',
     'entries/src/show.rt': 'pub fn look() -> u8 { quoted(b"calls::get", b\'"\') }\n',
-    'calls/src/lib.rt': 'pub use entries::Entry;\nghost use Rattle·calls·specs.specs.Called.{Called};\n',
-    'calls/specs/Called.antt': '-- Rattle·show.specs is only spoken of\nuse Rattle·keys.specs.Keys.{key}\n',
+    'calls/src/lib.rt': 'pub use entries::Entry;\nghost use Rattle.calls.specs.Called.{Called};\n',
+    'calls/specs/Called.antt': '-- Rattle.show.specs is only spoken of\nuse Rattle.keys.specs.Keys.{key}\n',
     'show/src/main.rt': 'use calls::Entry;\nfn main() { io::print(1); }\n',
+    'calls_c/src/lib.rt': 'use calls::Entry;\n',
     'show/must-fail/other.edit': 'Not os::open.\nfile: src/main.rt\nold: 1\nnew: keys::first()\n',
 }
 
@@ -70,13 +73,13 @@ class Faults(unittest.TestCase):
         self.by_its_files('show: calls entries keys io', crates=CRATES.replace(' io', ''))
 
     def test_named_in_a_clause(self):
-        self.by_its_files('keys: libc', files={'keys/src/more.rt': 'ghost use Rattle·libc.specs.Read.{read};\n'})
+        self.by_its_files('keys: libc', files={'keys/src/more.rt': 'ghost use Rattle.libc.specs.Read.{read};\n'})
 
     def test_named_in_a_definition(self):
-        self.by_its_files('keys: check', files={'keys/specs/Keys.antt': 'use Rattle·check.specs.Same.{Same}\n'})
+        self.by_its_files('keys: check', files={'keys/specs/Keys.antt': 'use Rattle.check.specs.Same.{Same}\n'})
 
     def test_named_in_a_proof(self):
-        self.by_its_files('keys: bytes', files={'keys/proofs/first/Proof.antt': 'use Rattle·bytes.proofs.fill.Met.{met}\n'})
+        self.by_its_files('keys: bytes', files={'keys/proofs/first/Answers.antt': 'use Rattle.bytes.proofs.Fill.{filled}\n'})
 
     def test_type_that_another_crate_hands_on(self):
         self.by_its_files('show: calls entries keys io', crates=CRATES.replace('calls entries keys io', 'calls keys io'))
@@ -88,10 +91,15 @@ class Faults(unittest.TestCase):
 
     def test_type_in_a_signature_may_be_listed(self):
         files = {'calls/src/lib.rt': 'use entries::Entry;\npub fn call() -> Entry { Entry::Free }\n',
-                 'show/src/main.rt': 'fn main() { calls::call(); }\n', 'show/must-fail/other.edit': ''}
+                 'show/src/main.rt': 'fn main() { calls::call(); }\n', 'show/must-fail/other.edit': '',
+                 'calls_c/src/lib.rt': 'use calls::other;\nuse entries::Entry;\n'}
         for line in 'show: calls', 'show: calls entries', 'show: calls entries keys':
             self.assertEqual(faults(CRATES.replace('show: calls entries keys io', line), files), [])
         self.by_its_files('show: calls entries', crates=CRATES.replace('calls entries keys io', 'calls entries io'), files=files)
+
+    def test_line_of_a_static_library(self):
+        self.assertEqual(faults(CRATES.replace('calls_c staticlib: calls entries keys', 'calls_c staticlib: calls')),
+                         ["crates.txt: by its files the line of calls_c is 'calls_c staticlib: calls entries keys'"])
 
     def test_in_another_order(self):
         self.by_its_files('calls: entries keys', crates=CRATES.replace('calls: entries keys\n', 'calls: keys entries\n'))
@@ -113,9 +121,9 @@ class Reading(unittest.TestCase):
 
     def test_groups(self):
         ground, top = self.groups(CRATES)
-        self.assertEqual(ground, ('The ground', [('keys', 'keys', []), ('entries', 'entries, which hold keys', ['keys'])]))
+        self.assertEqual(ground, ('The ground', [('keys', 'keys', [], ''), ('entries', 'entries, which hold keys', ['keys'], '')]))
         self.assertEqual(top.heading, 'The top')
-        self.assertEqual([crate.name for crate in top.crates], ['calls', 'show'])
+        self.assertEqual([(crate.name, crate.kind) for crate in top.crates], [('calls', ''), ('show', ''), ('calls_c', 'staticlib')])
 
     def test_no_heading_or_nothing_said(self):
         for crates in '# keys\nkeys:\n', '## The ground\n\nkeys:\n', '## The ground\n# keys\n\nkeys:\n', '## The ground\n# a\na:\nkeys:\n':
@@ -124,7 +132,8 @@ class Reading(unittest.TestCase):
 
     def test_directly(self):
         crates = crate_map.by_name(self.groups(CRATES))
-        self.assertEqual(crate_map.directly(crates), {'keys': [], 'entries': ['keys'], 'calls': ['entries'], 'show': ['calls']})
+        self.assertEqual(crate_map.directly(crates), {'keys': [], 'entries': ['keys'], 'calls': ['entries'], 'show': ['calls'],
+                                                        'calls_c': ['calls']})
 
 
 if __name__ == '__main__':

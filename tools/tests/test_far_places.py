@@ -1,4 +1,10 @@
-"""A place of the code that lies ten steps back, or more, has a name in the proof files: each such step is counted out once in a file."""
+"""A place of the code that is far off has a name in the proof files: nobody has to count calls or steps to find it.
+
+A fact is cited by its step, `c.number_at-magic.ensures`, and a step has the name of the call, and of the local that gets what it returns.
+Steps with the same name have numbers, in the order of the code: `c.number_at-2`. What is far down that order is to get a local of its own,
+and so a name. The check also makes names for itself, which say nothing and may change; and a proof that walks the code by hand,
+Proof.antt, has only such.
+"""
 
 import glob
 import os
@@ -9,68 +15,52 @@ import sharing
 
 CRATES = os.path.join(os.path.dirname(sharing.TOOLS), 'crates')
 
-# A path of ten steps back or more, from a place that has a name.
-FAR = re.compile(r'([^\s(]+)((?:\s+\.before){10,})(?![\w-])')
-# What may have one: a name for a place, in an answer, or in the whole file. The name's type says which step it is.
-LET = re.compile(r'\blet (\S+) = (\S+)((?:\s+\.before){10,}) in\b')
-ABBREV = re.compile(r'^abbrev (\S+) : (.*)\n\1 \S+ = (\S+)((?:\s+\.before){10,})$', re.M)
-
-
-def steps(path):
-    return path.count('.before')
+# The number up to which a reader counts.
+FAR = 5
+CITED = re.compile(r"(?<![\w.'-])[cl]((?:\.[\w'-]+)+)")
+# An arm of a match on numbers is called after its number, and is not counted: `c.in-17`.
+COUNTED = re.compile(r'(?!in-\d)\S*?-(\d+)')
+# The check's own, which it asks not to cite.
+OWN = re.compile(r'blocks|before|\S*-raw|\w+_known(?:-\S+)?-\d+|\S+-arg-\d+')
 
 
 def faults(text):
-    """What is counted out in a proof file without a name, or twice.
-
-    Lets of two answers are taken for one step if they are as long and the same facts are read at their places: a step that two arms
-    of a match take alike, each to a call of its own, is two."""
-    seen = set()
-    for declaration in re.split(r'\n\n+', re.sub(r'^--.*\n', '', text, flags=re.M)):
-        named = [('abbrev', kind) for _, kind, _, _ in ABBREV.findall(declaration)]
-        for name, root, path in LET.findall(declaration):
-            read = frozenset(re.findall(rf'(?<![\w.-]){re.escape(name)} \.([\w«»-]+)', declaration))
-            named.append(('let', root, steps(path), read or name))
-        for root, path in FAR.findall(LET.sub('', ABBREV.sub('', declaration))):
-            yield f'a path of {steps(path)} steps from {root} has no name: {declaration.split()[0]}'
-        for step in named:
-            if step in seen:
-                yield f'a step is counted out twice: {declaration.split()[0]}'
-            seen.add(step)
+    """What a proof file cites that a reader can't find by its name, each once."""
+    code = re.sub(r'^--.*\n|(?<=\s)--[^\n]*', '', text, flags=re.M)
+    for step in dict.fromkeys(step for path in CITED.findall(code) for step in path.split('.')[1:]):
+        counted = COUNTED.fullmatch(step)
+        if OWN.fullmatch(step):
+            yield f'{step} is a name that the check makes for itself'
+        elif counted and int(counted[1]) >= FAR:
+            yield f'{step} is counted: what it returns is to have a name in the code'
 
 
 class FarPlaces(unittest.TestCase):
     def test_have_names(self):
-        for path in sorted(glob.glob(os.path.join(glob.escape(CRATES), '*', 'proofs', '**', 'Proof.antt'), recursive=True)):
+        paths = sorted(glob.glob(os.path.join(glob.escape(CRATES), '*', 'proofs', '*', '**', '*.antt'), recursive=True))
+        self.assertGreater(len(paths), 100)
+        for path in paths:
             with self.subTest(os.path.relpath(path, CRATES)), open(path, encoding='utf-8') as file:
+                self.assertIn(os.path.basename(path), ('Invariants.antt', 'Answers.antt'))
                 self.assertEqual(list(faults(file.read())), [])
 
 
 class Faults(unittest.TestCase):
-    FAR = ' .before' * 10
-    NEED = 'returns{0} : tie.Need-returns{0}\nreturns{0} c = {1}\n\n'
-
-    def said(self, *answers, head=''):
-        return list(faults(head + ''.join(self.NEED.format('' if not i else f'-{i + 1}', answer) for i, answer in enumerate(answers))))
-
-    def test_short(self):
-        self.assertEqual(self.said('c' + ' .before' * 9 + ' .pre', 'c' + ' .before' * 9 + ' .pre'), [])
-
-    def test_no_name(self):
-        self.assertEqual(self.said(f'law (c{self.FAR} .pre)'), ['a path of 10 steps from c has no name: returns'])
-        self.assertEqual(self.said(f'let pre = c{self.FAR} .pre in pre'), ['a path of 10 steps from c has no name: returns'])
+    def said(self, answer):
+        return list(faults(f'-- c.number_at-9 is only spoken of\npub returns : goal.returns\nreturns c = {answer}\n'))
 
     def test_names(self):
-        abbrev = 'abbrev start-of : tie.{} → tie.Start\nstart-of c = c' + self.FAR + '\n\n'
-        self.assertEqual(self.said('start-of c .pre', head=abbrev.format('Then1')), [])
-        self.assertEqual(self.said('start-of c .pre', head=abbrev.format('Then1') + abbrev.format('Else1')), [])
-        self.assertEqual(self.said('start-of c .pre', head=abbrev.format('Then1') * 2), ['a step is counted out twice: abbrev'])
+        for answer in ('law c.requires (c.number_at-magic.ensures) c.number_at-4.result -- c.blocks', 'c.in-17.is', 'abc.number_at-9',
+                       'law (l.initial.left) 5'):
+            self.assertEqual(self.said(answer), [])
 
-    def test_let(self):
-        """Two answers may count as many steps, if it is to places at which other facts are read."""
-        let = f'\n    let called = c{self.FAR} in\n    called .{{}} .ensures'
-        self.assertEqual(self.said(let.format('insert'), let.format('delete')), [])
-        self.assertEqual(self.said(let.format('insert'), let.format('insert')), ['a step is counted out twice: returns-2'])
+    def test_counted(self):
+        self.assertEqual(self.said('law (c.number_at-5.ensures) c.number_at-5.result c.if-not-is_magic-12.true'),
+                         [f'{step} is counted: what it returns is to have a name in the code' for step in ('number_at-5', 'if-not-is_magic-12')])
+
+    def test_own_names(self):
+        for step in 'blocks', 'before', 'true-raw', 'shared_slice_known-1', 'struct_known-in-loop-s-1', 'same-arg-1':
+            self.assertEqual(self.said(f'law c.{step}.given'), [f'{step} is a name that the check makes for itself'])
 
 
 if __name__ == '__main__':

@@ -22,7 +22,7 @@ HEADS, LISTING = content('crates/c_numbers/specs/Head.antt'), content('crates/li
 def proved_order(text, equation):
     """The names in a list of a definition: the last of each element's, without the number that a name's field has."""
     found = re.search(rf'^{re.escape(equation)} =\s(.*?)\[\]', text, re.M | re.S)
-    return [re.sub(r' \.0$', '', element.strip(' \n()')).split('.')[-1].strip(' ()') for element in found[1].split('∷')[:-1]]
+    return [re.sub(r'\.0$', '', element.strip(' \n()')).split('.')[-1].strip(' ()') for element in found[1].split('∷')[:-1]]
 
 
 def header_places(kind, start):
@@ -48,13 +48,13 @@ def crate_size(name):
 
 class Places(unittest.TestCase):
     def test_head(self):
-        proved = proved_order(HEADS, 'numbersOf h')
+        proved = proved_order(HEADS, 'numbers_of h')
         self.assertEqual(proved, ['capacity', 'held', 'hand', 'spill', 'estimate'])
         self.assertEqual(header_places('pc_head_place', 'PC_HEAD'), proved)
         self.assertEqual(crate_places('head'), proved)
 
     def test_page(self):
-        proved = proved_order(LISTING, 'numbersOf p')
+        proved = proved_order(LISTING, 'numbers_of p')
         self.assertEqual(proved[:2] + proved[-1:], ['key', 'handle', 'uses'])
         self.assertEqual(header_places('pc_page_place', 'PC_PAGE'), proved)
         self.assertIn(f'let [{", ".join(proved)}] = numbers;', content('host/rust/src/record.rs'))
@@ -62,7 +62,7 @@ class Places(unittest.TestCase):
     def test_answer(self):
         places = header_places('pc_answer_place', 'PC_ANSWER')
         self.assertEqual(crate_places('answer'), places)
-        proved = re.search(r'^answerOf es r =\s(.*?)\[\]', HEADS, re.M | re.S)[1].split('∷')[:-1]
+        proved = re.search(r'^answer_of es r =\s(.*?)\[\]', HEADS, re.M | re.S)[1].split('∷')[:-1]
         self.assertEqual(len(proved), len(places))
         for element, place in zip(proved, places):
             self.assertIn(place, element)
