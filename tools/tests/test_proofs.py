@@ -153,6 +153,14 @@ class Skeleton(unittest.TestCase):
         for said, status in ('rattle: error: two functions\n', 2), ('started=2\n', 0):
             self.assertEqual(ran(SKELETON, 'sums', run=rt_that((SAID, 1), (said, status))),
                              (1, '', f"{said}sums: 'rt check --start' did not end well, or wrote no file"))
+        with tempfile.TemporaryDirectory() as top:
+            path = os.path.join(top, 'crates/sums/proofs/total/Answers.antt')
+            os.makedirs(os.path.dirname(path))
+            with open(path, 'w', encoding='utf-8') as file:
+                file.write(ANSWERS)
+            said = 'wrote ./proofs/total/Answers.antt\nantt refuses a module\n'
+            self.assertEqual(ran(SKELETON, 'sums', run=rt_that((SAID, 1), (said, 1)), top=top),
+                             (1, 'crates/sums/proofs/total/Answers.antt\n', f"{said}sums: 'rt check --start' did not end well, or wrote no file"))
 
 
 class Paths(unittest.TestCase):
