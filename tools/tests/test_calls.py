@@ -29,6 +29,10 @@ METHOD = {'release_page': 'release'}
 # dispatch calls what stands on sound memory, and that is where eviction::evict_one is the single eviction
 BELOW_THE_PUBLIC_CALL = {'evict_one': 'evict'}
 
+# the three insertions are one function there, and a mode; `page_of` takes what they are given from the record
+INSERTION = {'Plain': 'insert', 'Forced': 'force_insert_page', 'Upsert': 'force_upsert_page'}
+INSERTED = ['key', 'handle', 'page']
+
 
 def takes_list(operation):
     return CODE['short_list'] in operation.answers
@@ -40,7 +44,8 @@ ARMS = [(operation.number, BELOW_THE_PUBLIC_CALL.get(operation.function, operati
 CAMEL_OPERATIONS = [operation.camel() for operation in OPERATIONS]
 CAMEL_ANSWERS = [(answer.camel(), answer.number) for answer in ANSWERS]
 EXPLAINED = [(f'**{answer.number}**', f'`{answer.name}`', answer.when, answer.value, answer.leaves) for answer in ANSWERS]
-VALUES = [(answer.camel(), 'v' if answer.name == 'done' else 'k.0' if answer.gives_key else '0') for answer in ANSWERS]
+# those that have no value are one case
+VALUES = [(answer.camel(), 'v' if answer.name == 'done' else 'k.0') for answer in ANSWERS if answer.name == 'done' or answer.gives_key] + [('_', '0')]
 
 
 # ── what they say ────────────────────────────────────────────────────────────
@@ -67,9 +72,11 @@ def requests(text):
 def arms(text):
     """Of dispatch: each operation, the function that is called, the fields that it is given, and whether a list is."""
     found = []
-    for number, function, given in re.findall(r'^        ([0-9]+) => (\w+)\((.*?)\),$', text, re.M | re.S):
+    for number, function, given in re.findall(r'^        ([0-9]+) => (?:\{\n[^{}]*;\n *)?(\w+)\(([^;{}]*?)\)(?:,|\n        \})$', text, re.M):
+        mode = re.search(r'page_of\(asked, InsertMode::(\w+)\)', given)
         given = [name for name in re.split(r'[\s,]+', given) if name]
-        found.append((int(number), function, [name for name in given if name in TABLE.FIELDS], 'list' in given))
+        fields = INSERTED if mode else [name for name in given if name in TABLE.FIELDS]
+        found.append((int(number), INSERTION[mode[1]] if mode else function, fields, 'list' in given))
     return found
 
 
@@ -158,10 +165,11 @@ PLACES = {
         ('call (clear r.option places)', 'call (clear r.option)'),
     ]),
     'arms of dispatch': (DISPATCH, arms, ARMS, [
-        ('        5 => peek', '        6 => peek'),
-        ('12 => notify_page_spilled(', '12 => notify_page_dirty('),
-        ('head, key, option),', 'head, key),'),
-        ('        15 => evict(slots, by_key, by_handle, marks, list, head),\n', ''),
+        ('        5 => {', '        6 => {'),
+        ('            notify_page_spilled(', '            notify_page_dirty('),
+        ('InsertMode::Forced', 'InsertMode::Upsert'),
+        ('list, head, option),', 'list, head),'),
+        ('        15 => evict(memory, list, head),\n', ''),
     ]),
     'what dispatch refuses': (DISPATCH, refused, [(str(len(OPERATIONS)), '255')], [
         (f'{len(OPERATIONS)}..=255', f'{len(OPERATIONS) + 1}..=255'),
@@ -173,7 +181,7 @@ PLACES = {
     ]),
     'values of answers': (ANSWER, lambda text: equations('value_of', text), VALUES, [
         ('value_of (Pinned k) = k.0', 'value_of (Pinned k) = 0'),
-        ('value_of Full = 0', 'value_of Full = 1'),
+        ('value_of _ = 0', 'value_of _ = 1'),
     ]),
     'operations of the oracle': (ORACLE, oracle_operations, CAMEL_OPERATIONS, [
         ('    Get,\n    Peek,\n', '    Peek,\n    Get,\n'),

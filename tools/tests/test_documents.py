@@ -14,7 +14,7 @@ WORD = re.compile(r"[^\W\d][\w']*(?:-[\w']+)*")
 PATH = re.compile(r'[\w.*-]+(?:/[\w.*-]+)+/?|[\w.-]+\.(?:antt|md|py|rs|rt|svg)')
 # Names, with commas or 'and' between them, that are said to stand in a file.
 PLACED = re.compile(r'((?:`[^`]+`(?:, | and ))*`[^`]+`) in `([^`]+\.(?:antt|rt))`')
-DECLARED = r"^\s*(?:(?:pub|abbrev|unfoldable|record|data|fn|const|struct|enum) )*{}(?![\w'-])"
+DECLARED = r"^\s*(?:(?:pub|abbrev|unfoldable|record|data|fn|const|struct|enum|trait) )*{}(?![\w'-])"
 NUMBERS = re.compile(r'\b(rule|code|item|demand)s? (\d+(?:(?:, | to | and )\d+)*)')
 
 

@@ -10,7 +10,7 @@ import crate_map
 
 # `use M.{a, b}` and `use M as m`, in Rattle `ghost use ..`; and Rattle's own `use m::{A, B}`, which no `pub` passes on.
 USE = re.compile(r'^(ghost )?use ([^\s{;]+?)(?:(?:\.|::)\{([^}]*)\}| as ([^\s;]+))?;?$', re.MULTILINE)
-CLAUSE = re.compile(r'^ *(?:(?:pub )?ghost \w+:|(?:requires|ensures)(?: \w+)?) \{.*?\}[;,]?$', re.MULTILINE | re.DOTALL)
+CLAUSE = re.compile(r'^ *(?:(?:pub )?ghost \w+(?::| =)|(?:requires|ensures)(?: \w+)?) \{.*?\}[;,]?$', re.MULTILINE | re.DOTALL)
 # A trait of std may be brought in for the calls of what it has: by these words it is said, too.
 CALLED = {'Write': {'write', 'write_all'}}
 

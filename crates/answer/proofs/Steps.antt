@@ -1,22 +1,20 @@
 -- From the rules to the calls. A call that passes its tests does what its rule says, and one that fails a test answers that
 -- test's code with nothing changed. A rule is put together from blocks, and each block only adds to what was answered and
 -- listed: so a call that came to the rest of a rule came to the whole.
+use Rattle.std.specs.Prelude.{Ok, Err, Result, Some, None}
 use mathlib.Core.Path.{◌≡◌, refl, sym, ap, ◌∙◌, subst}
 use mathlib.Core.Bool.{Bool, true, false}
 use mathlib.Core.List.{List, [], ◌∷◌, ◌++◌, append_assoc}
-use mathlib.Core.Logic.{◌≢◌}
 use mathlib.Core.Option.{some}
 use Prim.Native.Nat.{ℕ, suc, ◌+◌, ◌≤◌, ◌<◌}
 use native.Mathlib.Omega.{arith}
 use lib.ListN.{length, take, drop, set, length-append}
 use lib.Seq.{drop-cons, drop-drop, take-append_seam, drop-append-add, set-append_seam}
 use borrow.Author.Tests.{lt-ltb, le-ltb}
-use Rattle.page.specs.Record.{deletable, one_holder_more}
+use Rattle.page.specs.Record.{Holders, deletable, one_holder_more}
 use Rattle.page.specs.declared.cache.PageCache.{PageCache}
-use Rattle.page.specs.declared.record.Deletable.{Deletable}
-use Rattle.page.specs.declared.record.Deletable.TheVariants.{Yes, Locked, Dirty, Pinned}
-use Rattle.page.specs.declared.record.Recount.{Recount}
-use Rattle.page.specs.declared.record.Recount.TheVariants.{Now, AtLimit}
+use Rattle.page.specs.declared.record.Hindrance.{Hindrance}
+use Rattle.page.specs.declared.record.Hindrance.TheVariants.{Locked, Dirty, Pinned}
 use Rattle.model.specs.Cache.{Cache, held_in, leave}
 use Rattle.model.specs.Call.{Call, Outcome, answer, listing, touching}
 use Rattle.model.specs.Rooms.{Room, following}
@@ -154,32 +152,29 @@ following_follows room a H swept counted = record {
 
 -- ── rule 8 ───────────────────────────────────────────────────────────────────
 module _ (p : Page) (follow : Cache → Outcome) (c : Cache) where
-  abbrev decided : Deletable → Outcome
-  decided why = elim why [
-    | Yes ↦ listing (p.handle ∷ []) (follow (leave p c))
-    | Locked ↦ answer 5 p.key c
-    | Dirty ↦ answer 6 p.key c
-    | Pinned ↦ answer 7 p.key c
-  ]
+  abbrev decided : Result Unit Hindrance → Outcome
+  decided (Ok _) = listing (p.handle ∷ []) (follow (leave p c))
+  decided (Err Locked) = answer 5 p.key c
+  decided (Err Dirty) = answer 6 p.key c
+  decided (Err Pinned) = answer 7 p.key c
 
   -- a deletion, and what follows it
-  pub deleting_done : deletable p.state ≡ Yes → deleting p follow c ≡ listing (p.handle ∷ []) (follow (leave p c))
+  pub deleting_done : deletable p.state ≡ Ok tt → deleting p follow c ≡ listing (p.handle ∷ []) (follow (leave p c))
   deleting_done may = ap decided may
 
   -- a deletion that is refused
-  pub deleting_refused : (why : Deletable) → deletable p.state ≡ why → why ≢ Yes
-      → deleting p follow c ≡ answer (code_of (refused_as (record { 0 = p.key }) why)) (value_of (refused_as (record { 0 = p.key }) why)) c
-  deleting_refused Yes because may_not = absurd (may_not refl)
-  deleting_refused Locked because may_not = ap decided because
-  deleting_refused Dirty because may_not = ap decided because
-  deleting_refused Pinned because may_not = ap decided because
+  pub deleting_refused : (why : Hindrance) → deletable p.state ≡ Err why
+      → deleting p follow c ≡ answer (code_of (refused_as (record { 0 = p.key }) (Err why))) (value_of (refused_as (record { 0 = p.key }) (Err why))) c
+  deleting_refused Locked because = ap decided because
+  deleting_refused Dirty because = ap decided because
+  deleting_refused Pinned because = ap decided because
 
 -- ── rule 9 ───────────────────────────────────────────────────────────────────
 -- a hit lists nothing
 pub hit_unlisted : (key : ℕ) (asked : Bool) (p : Page) (c : Cache) → (hit key asked p c).listed ≡ []
 hit_unlisted key asked p c = go (one_holder_more p.state) asked
   where
-    go : (r : Recount) (b : Bool) → (hit_with key r b p c).listed ≡ []
-    go (Now holders) true = refl
-    go (Now holders) false = refl
-    go AtLimit b = refl
+    go : (r : Holders) (b : Bool) → (hit_with key r b p c).listed ≡ []
+    go (Some holders) true = refl
+    go (Some holders) false = refl
+    go None b = refl

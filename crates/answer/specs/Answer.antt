@@ -1,9 +1,9 @@
 -- 01's number and value for each answer, and what it means that a call came to an outcome of the model.
-use Rattle.std.specs.Prelude.{◌≡◌, List, ◌++◌, ℕ, ◌≤◌, length, drop}
+use Rattle.std.specs.Prelude.{◌≡◌, List, ◌++◌, ℕ, ◌≤◌, length, drop, Result, Ok, Err}
 use Rattle.page.specs.declared.cache.PageCache.{PageCache}
 use Rattle.page.specs.declared.names.PageCacheKey.{PageCacheKey}
-use Rattle.page.specs.declared.record.Deletable.{Deletable}
-use Rattle.page.specs.declared.record.Deletable.TheVariants as deletable
+use Rattle.page.specs.declared.record.Hindrance.{Hindrance}
+use Rattle.page.specs.declared.record.Hindrance.TheVariants as hindrance
 use Rattle.model.specs.Call.{Outcome}
 use Rattle.memory.specs.Memory.{Memory}
 use Rattle.memory.specs.Holds.{Holds, Sound}
@@ -38,33 +38,17 @@ code_of HolderLimit = 20
 -- found handle, replaced handle, refusing key, number selected, else 0
 abbrev pub value_of : Answer → ℕ
 value_of (Done v) = v
-value_of NotSound = 0
-value_of BadRecord = 0
-value_of ShortList = 0
-value_of Absent = 0
 value_of (Locked k) = k.0
 value_of (Dirty k) = k.0
 value_of (Pinned k) = k.0
-value_of Full = 0
-value_of KeyExists = 0
-value_of PendingEvictions = 0
-value_of OtherPage = 0
-value_of HandleElsewhere = 0
-value_of NoSlot = 0
-value_of Empty = 0
-value_of TooLarge = 0
-value_of BadLengths = 0
-value_of BadReplay = 0
-value_of NotNeeded = 0
-value_of NoneSelected = 0
-value_of HolderLimit = 0
+value_of _ = 0
 
--- the answer to a deletion that is refused for this reason
-abbrev pub refused_as : PageCacheKey → Deletable → Answer
-refused_as key deletable.Yes = Done 0
-refused_as key deletable.Locked = Locked key
-refused_as key deletable.Dirty = Dirty key
-refused_as key deletable.Pinned = Pinned key
+-- the answer to a deletion of which a page's record says this
+abbrev pub refused_as : PageCacheKey → Result Unit Hindrance → Answer
+refused_as key (Ok granted) = Done 0
+refused_as key (Err hindrance.Locked) = Locked key
+refused_as key (Err hindrance.Dirty) = Dirty key
+refused_as key (Err hindrance.Pinned) = Pinned key
 
 -- an answer with nothing passed and nothing listed
 abbrev pub plainly : Answer → PageCache → Answered

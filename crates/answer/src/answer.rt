@@ -1,10 +1,13 @@
 // Document 01's answers, in the order of its codes. A code and a value make one answer: no two cases share a code.
+//
+// It is no `Result` with the refusals as its errors: 01 numbers all answers in one list, and beside a refusal too a call may have pages
+// passed, handles listed and another head (a full insertion, a pending resize), so that `?` would hand up too little.
 ghost use Rattle.std.specs.Prelude.{◌≡◌};
 ghost use Rattle.answer.specs.Answer.{refused_as};
 
-use page::{Deletable, PageCacheKey};
+use page::{Hindrance, PageCacheKey};
 
-#[derive(Clone, Copy)]
+#[derive(Clone, Copy, PartialEq, Eq)]
 pub enum Answer {
     // 0. Done, with the handle that was found or replaced, the number selected, or else 0.
     Done(u32),
@@ -49,15 +52,15 @@ pub enum Answer {
 }
 
 impl Answer {
-    // Rule 8: the reason against a deletion, with the page's key.
-    pub fn refusal(key: PageCacheKey, why: Deletable) -> Answer
-        ensures { result ≡ refused_as key why }
+    // Rule 8: what a page's record says of a deletion, with the page's key if it is against it.
+    pub fn refusal(key: PageCacheKey, deletable: Result<(), Hindrance>) -> Answer
+        ensures { result ≡ refused_as key deletable }
     {
-        match why {
-            Deletable::Yes => Answer::Done(0),
-            Deletable::Locked => Answer::Locked(key),
-            Deletable::Dirty => Answer::Dirty(key),
-            Deletable::Pinned => Answer::Pinned(key),
+        match deletable {
+            Ok(()) => Answer::Done(0),
+            Err(Hindrance::Locked) => Answer::Locked(key),
+            Err(Hindrance::Dirty) => Answer::Dirty(key),
+            Err(Hindrance::Pinned) => Answer::Pinned(key),
         }
     }
 }

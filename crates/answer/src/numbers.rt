@@ -4,7 +4,8 @@ ghost use Rattle.answer.specs.Answer.{code_of, value_of};
 
 use crate::answer::Answer;
 
-// The number of the answer, 0 to 20.
+// The number of the answer, 0 to 20. No cast gives it: some answers have a field. No From: 01's table has the number and the value beside it,
+// and the definitions have them under these two names.
 pub fn code_of(answer: Answer) -> u8
     ensures { result ≡ code_of answer }
 {
@@ -39,25 +40,7 @@ pub fn value_of(answer: Answer) -> u32
 {
     match answer {
         Answer::Done(value) => value,
-        Answer::NotSound => 0,
-        Answer::BadRecord => 0,
-        Answer::ShortList => 0,
-        Answer::Absent => 0,
-        Answer::Locked(locked) => locked.0,
-        Answer::Dirty(dirty) => dirty.0,
-        Answer::Pinned(pinned) => pinned.0,
-        Answer::Full => 0,
-        Answer::KeyExists => 0,
-        Answer::PendingEvictions => 0,
-        Answer::OtherPage => 0,
-        Answer::HandleElsewhere => 0,
-        Answer::NoSlot => 0,
-        Answer::Empty => 0,
-        Answer::TooLarge => 0,
-        Answer::BadLengths => 0,
-        Answer::BadReplay => 0,
-        Answer::NotNeeded => 0,
-        Answer::NoneSelected => 0,
-        Answer::HolderLimit => 0,
+        Answer::Locked(key) | Answer::Dirty(key) | Answer::Pinned(key) => key.0,
+        _ => 0,
     }
 }

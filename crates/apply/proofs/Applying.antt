@@ -1,5 +1,6 @@
 -- What is decoded and tested decides which case of the contract is met. A test that fails is one of a call, since nothing else
 -- asks for sound memory.
+use Rattle.std.specs.Prelude.{Option, Some, None}
 use mathlib.Core.Bool.{Bool, true, false, not, ◌||◌, true≢false}
 use mathlib.Core.List.{List, [], ◌∷◌}
 use mathlib.Core.Path.{◌≡◌, refl, sym, subst, ◌∙◌}
@@ -21,8 +22,6 @@ use Rattle.contract.specs.Called.{State, refuses, acts, Typed}
 use Rattle.replay_record.specs.Fields.{decoded}
 use Rattle.replay_record.specs.Request.{Request, none, creation, call, operations, last_operation, request_of, request_in}
 use Rattle.replay_record.specs.declared.record.Record.{Record}
-use Rattle.replay_record.specs.declared.record.Decoded.{Decoded}
-use Rattle.replay_record.specs.declared.record.Decoded.TheVariants.{Bad, Good}
 use Rattle.dispatch.specs.Runs.{Runnable, Runs, Ran}
 use Rattle.apply.specs.Applied.{Meets, Applied}
 
@@ -94,19 +93,19 @@ module _ {operation : ℕ} {m : Memory} {head : PageCache} where
 
 -- ── the contract ─────────────────────────────────────────────────────────────
 module _ {bytes : List ℕ} {before : State} {head : PageCache} {after : State} {r : Answered} where
-  applied_as : (d : Decoded) → decoded bytes ≡ d → Meets (request_in d (length before.list)) before head after r → Applied bytes before head after r
+  applied_as : (d : Option Record) → decoded bytes ≡ d → Meets (request_in d (length before.list)) before head after r → Applied bytes before head after r
   applied_as d is meets = record {
-    meets = subst (λ (x : Decoded). Meets (request_in x (length before.list)) before head after r) (sym is) meets;
+    meets = subst (λ (x : Option Record). Meets (request_in x (length before.list)) before head after r) (sym is) meets;
   }
 
-  pub applied_bad : decoded bytes ≡ Bad → after ≡ before → r ≡ plainly BadReplay head → Applied bytes before head after r
-  applied_bad is same told = applied_as Bad is (record { state = same; answer = told })
+  pub applied_bad : decoded bytes ≡ None → after ≡ before → r ≡ plainly BadReplay head → Applied bytes before head after r
+  applied_bad is same told = applied_as None is (record { state = same; answer = told })
 
-  module _ {asked : Record} (is : decoded bytes ≡ Good asked) {ready : Bool}
+  module _ {asked : Record} (is : decoded bytes ≡ Some asked) {ready : Bool}
       (test : Decides ready (Runnable asked.operation before.memory head)) where
     pub applied_unsound : not ready ≡ true → Typed before.memory head → after ≡ before → r ≡ plainly NotSound head
         → Applied bytes before head after r
-    applied_unsound failed typed same told = applied_as (Good asked) is (go (request_of asked (length before.list)) refl)
+    applied_unsound failed typed same told = applied_as (Some asked) is (go (request_of asked (length before.list)) refl)
       where
         call_of : (x : Request) → request_of asked (length before.list) ≡ x → (IsCall x → ⊥) → ⊥
         call_of x q other = fails test failed (record {
@@ -123,7 +122,7 @@ module _ {bytes : List ℕ} {before : State} {head : PageCache} {after : State} 
         }
 
     pub applied_ran : not ready ≡ false → Typed before.memory head → Wide after.memory.marks → Ran asked before head after r → Applied bytes before head after r
-    applied_ran passed typed wide ran = applied_as (Good asked) is (go (request_of asked (length before.list)) refl ran.runs)
+    applied_ran passed typed wide ran = applied_as (Some asked) is (go (request_of asked (length before.list)) refl ran.runs)
       where
         go : (x : Request) → request_of asked (length before.list) ≡ x → Runs x before head after r → Meets x before head after r
         go none q runs = runs

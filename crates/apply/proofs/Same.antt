@@ -5,7 +5,7 @@ use mathlib.Core.Path.{◌≡◌, sym, ap, ◌∙◌}
 use Prim.Native.Nat.{ℕ}
 use lib.ListN.{length}
 use Rattle.page.specs.declared.cache.PageCache.{PageCache}
-use Rattle.creating.specs.declared.creating.Created.{Created}
+use Rattle.creating.specs.Creation as creation_of
 use Rattle.creating.proofs.NewPool.{SameCreation, created_same}
 use Rattle.answer.specs.declared.answered.Answered.{Answered}
 use Rattle.contract.specs.Called.{State}
@@ -23,7 +23,7 @@ module _ (before : State) (head : PageCache) {a b : State} {r s : Answered} wher
       created_same before.memory capacity p.makes.made q.makes.made a.memory b.memory p.makes.creates q.makes.creates in
       let list : a.list ≡ b.list = p.list ∙ sym q.list in (
         λ i. record { memory = same.memory i; list = list i },
-        p.makes.answer ∙ ap (λ (m : Created). answered_as m head) same.answer ∙ sym q.makes.answer,
+        p.makes.answer ∙ ap (λ (m : creation_of.Creation). answered_as m head) same.answer ∙ sym q.makes.answer,
       )
   meets_same (call x) p q = called_same p q
 

@@ -8,52 +8,47 @@
 #![tactic(auto)]
 
 ghost use Rattle.pool.specs.Decides.{Decides};
-ghost use Rattle.memory.specs.Memory.{memory_of, memories};
+ghost use Rattle.memory.specs.Memory.{memory_in, memory_seen, SameSlices};
 ghost use Rattle.contract.specs.Called.{lent};
 ghost use Rattle.dispatch.specs.Runs.{Runnable};
 ghost use Rattle.apply.specs.Applied.{Applied};
 
 use answer::{Answer, Answered};
 use dispatch::dispatch;
+use memory::{LentMemory, LentView};
 use page::PageCache;
-use replay_record::{Decoded, decode};
+use replay_record::decode;
 use soundness::is_sound;
 
 // Carries out what the bytes ask for.
 pub fn apply(
     bytes: &[u8],
-    slots: &mut [u64],
-    by_key: &mut [u32],
-    by_handle: &mut [u32],
-    marks: &mut [u64],
+    memory: &mut LentMemory<'_>,
     list: &mut [u32],
     head: PageCache,
 ) -> Answered
-    ensures { let m = memories slots by_key by_handle marks in Applied bytes.now (lent m.entry list.old) head (lent m.exit list.new) result }
+    ensures same { SameSlices memory.old memory.new }
+    ensures applied { Applied bytes.now (lent (memory_in memory.old) list.old) head (lent (memory_in memory.new) list.new) result }
 {
-    let Decoded::Good(asked) = decode(bytes) else {
+    let Some(asked) = decode(bytes) else {
         return Answered::plain(Answer::BadReplay, head);
     };
-    if !is_ready(slots, by_key, by_handle, marks, head, asked.operation) {
+    memory.words_fit();
+    if !is_ready(memory.view(), head, asked.operation) {
         return Answered::plain(Answer::NotSound, head);
     }
-    dispatch(slots, by_key, by_handle, marks, list, head, asked)
+    let answered = dispatch(memory, list, head, asked);
+    memory.words_fit();
+    answered
 }
 
 // Whether the operation may be carried out: a creation on any memory, and a call on sound memory. Any other operation is refused
 // later, whatever the memory.
-fn is_ready(
-    slots: &[u64],
-    by_key: &[u32],
-    by_handle: &[u32],
-    marks: &[u64],
-    head: PageCache,
-    operation: u8,
-) -> bool
-    ensures { Decides result (Runnable operation (memory_of slots.now by_key.now by_handle.now marks.now) head) }
+fn is_ready(memory: LentView<'_>, head: PageCache, operation: u8) -> bool
+    ensures { Decides result (Runnable operation (memory_seen memory.entry) head) }
 {
     if (operation < 1) | (operation > 17) {
         return true;
     }
-    is_sound(slots, by_key, by_handle, marks, head)
+    is_sound(memory, head)
 }

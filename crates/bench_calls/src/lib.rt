@@ -6,13 +6,14 @@
 // does, and that the memory stays sound for the next one.
 #![tactic(auto)]
 
-ghost use Rattle.memory.specs.Memory.{memory, memories};
+ghost use Rattle.memory.specs.Memory.{memory_in};
 ghost use Rattle.memory.specs.Holds.{Sound};
 
-use c_numbers::{put_head, read_head};
+use c_numbers::{HEAD, put_head, read_head};
 use dispatch::dispatch;
+use memory::LentMemory;
 use page::PageCache;
-use replay_record::{Decoded, decode};
+use replay_record::decode;
 use soundness::is_sound;
 
 const RECORD: usize = 32;
@@ -20,56 +21,37 @@ const RECORD: usize = 32;
 // One record on sound memory, which stays sound. Bytes that are no record do nothing.
 fn run_one(
     bytes: &[u8],
-    slots: &mut [u64],
-    by_key: &mut [u32],
-    by_handle: &mut [u32],
-    marks: &mut [u64],
+    memory: &mut LentMemory<'_>,
     list: &mut [u32],
     head: PageCache,
 ) -> PageCache
-    requires { Sound (memory slots by_key by_handle marks) head }
-    ensures { let m = memories slots by_key by_handle marks in Sound m.exit result }
+    requires { Sound (memory_in memory.old) head }
+    ensures { Sound (memory_in memory.new) result }
 {
-    let Decoded::Good(asked) = decode(bytes) else {
+    let Some(asked) = decode(bytes) else {
         return head;
     };
-    let answered = dispatch(slots, by_key, by_handle, marks, list, head, asked);
-    answered.head
+    dispatch(memory, list, head, asked).head
 }
 
 // One record after another.
 fn run_each(
     records: &[u8],
-    slots: &mut [u64],
-    by_key: &mut [u32],
-    by_handle: &mut [u32],
-    marks: &mut [u64],
+    memory: &mut LentMemory<'_>,
     list: &mut [u32],
     head: PageCache,
 ) -> PageCache
-    requires { Sound (memory slots by_key by_handle marks) head }
+    requires { Sound (memory_in memory.old) head }
 {
-    let count = records.len() / RECORD;
     let mut now = head;
-    let mut i = 0;
-    while i < count {
-        let from = RECORD * i;
-        let end = from + RECORD;
-        now = run_one(
-            &records[from..end],
-            slots,
-            by_key,
-            by_handle,
-            marks,
-            list,
-            now,
-        );
-        i += 1;
+    for bytes in records.chunks_exact(RECORD) {
+        now = run_one(bytes, memory, list, now);
     }
     now
 }
 
-// Tests the memory once, and carries out the records.
+// Tests the memory once, and carries out the records. C has no enum: 0 if it did, 1 if the memory is not sound, 16 if the head has another
+// length.
 #[unsafe(no_mangle)]
 pub extern "C" fn pc_bench_run(
     slots: &mut [u64],
@@ -80,14 +62,20 @@ pub extern "C" fn pc_bench_run(
     list: &mut [u32],
     records: &[u8],
 ) -> u32 {
-    if head.len() != 5 {
+    let Some(head) = head.as_mut_array::<HEAD>() else {
         return 16;
-    }
+    };
+    let mut memory = LentMemory {
+        slots,
+        by_key,
+        by_handle,
+        marks,
+    };
     let before = read_head(head);
-    if !is_sound(slots, by_key, by_handle, marks, before) {
+    if !is_sound(memory.view(), before) {
         return 1;
     }
-    let after = run_each(records, slots, by_key, by_handle, marks, list, before);
+    let after = run_each(records, &mut memory, list, before);
     put_head(head, after);
     0
 }

@@ -5,13 +5,12 @@
 // stated in crate `wal`.
 #![tactic(auto)]
 
-ghost use Rattle.std.specs.Prelude.{◌≡◌, length};
-
-use wal::{Commit, Fault, Scanned, Summary, scan};
+use wal::{Fault, Summary, scan};
 
 // The numbers of an answer: frames, end, both sums, commits, the last commit's frame and size (0 and 0 if there is none).
 const ANSWER: usize = 7;
 
+// What is handed back: C has no enum.
 const READ: u32 = 0;
 
 const BAD_LENGTH: u32 = 6;
@@ -19,45 +18,34 @@ const BAD_LENGTH: u32 = 6;
 // Scans a log, and writes what was read.
 #[unsafe(no_mangle)]
 pub extern "C" fn wal_bench_scan(log: &[u8], answer: &mut [u64]) -> u32 {
-    if answer.len() != ANSWER {
+    let Ok(answer) = <&mut [u64; ANSWER]>::try_from(answer) else {
         return BAD_LENGTH;
-    }
+    };
     match scan(log) {
-        Scanned::Unread(fault) => code_of(fault),
-        Scanned::Read(summary) => {
-            put(answer, summary);
+        Ok(summary) => {
+            *answer = numbers(summary);
             READ
         }
+        Err(fault) => code_of(fault),
     }
 }
 
-fn put(answer: &mut [u64], summary: Summary)
-    requires { length answer.old ≡ 7 }
-{
-    answer[0] = summary.frames as u64;
-    answer[1] = summary.end as u64;
-    answer[2] = summary.sums.s0 as u64;
-    answer[3] = summary.sums.s1 as u64;
-    answer[4] = summary.commits as u64;
-    let last = summary.last;
-    answer[5] = frame_of(last);
-    answer[6] = size_of(last);
+fn numbers(summary: Summary) -> [u64; ANSWER] {
+    let (frame, pages) = summary
+        .last
+        .map_or((0, 0), |commit| (commit.frame, commit.pages));
+    [
+        summary.frames as u64,
+        summary.end as u64,
+        summary.sums.s0 as u64,
+        summary.sums.s1 as u64,
+        summary.commits as u64,
+        frame as u64,
+        pages as u64,
+    ]
 }
 
-fn frame_of(last: Commit) -> u64 {
-    match last {
-        Commit::Nothing => 0,
-        Commit::At(frame, _) => frame as u64,
-    }
-}
-
-fn size_of(last: Commit) -> u64 {
-    match last {
-        Commit::Nothing => 0,
-        Commit::At(_, size) => size as u64,
-    }
-}
-
+// C has numbers for the faults.
 fn code_of(fault: Fault) -> u32 {
     match fault {
         Fault::Length => 1,

@@ -12,10 +12,10 @@ ghost use Rattle.btree_format.specs.Fields.{page};
 ghost use Rattle.btree_format.specs.Rules.{Says};
 ghost use Rattle.btree_check.specs.Begun.{whole, Begun};
 
+pub use btree_format::Fault;
 use btree_format::{
     array_at, content_start, first_unlike, half_at, header_at, is_page_type, is_usable, usable_end,
 };
-pub use btree_format::{Checked, Fault, Place};
 use cell_pointers::first_outside;
 use freeblocks::first_bad;
 use page_size::is_page_size;
@@ -24,30 +24,28 @@ const MOST_FRAGMENTS: u8 = 60;
 
 // Checks an image as the page with that number of a database whose pages have `page_size` bytes, the last `reserved` of them
 // reserved.
-pub fn check(image: &[u8], number: u32, page_size: u32, reserved: u8) -> Checked
+pub fn check(image: &[u8], number: u32, page_size: u32, reserved: u8) -> Result<(), Fault>
     ensures { Says (page image.now number page_size reserved) result }
 {
     if page_size as usize != image.len() {
-        return Checked::No(Fault::Length);
+        return Err(Fault::Length);
     }
     if !is_page_size(page_size) {
-        return Checked::No(Fault::PageSize);
+        return Err(Fault::PageSize);
     }
     if !is_usable(image.len(), reserved) {
-        return Checked::No(Fault::UsableSize);
+        return Err(Fault::UsableSize);
     }
-    if number != 1 {
-        return check_tree(image, number, reserved);
-    }
-    let unlike = first_unlike(image);
-    if let Place::At(at) = unlike {
-        return Checked::No(Fault::Magic(at));
+    if number == 1
+        && let Some(at) = first_unlike(image)
+    {
+        return Err(Fault::Magic(at));
     }
     check_tree(image, number, reserved)
 }
 
 // The same of an image whose sizes and first bytes are right.
-fn check_tree(image: &[u8], number: u32, reserved: u8) -> Checked
+fn check_tree(image: &[u8], number: u32, reserved: u8) -> Result<(), Fault>
     requires { Begun image.now number reserved }
     ensures { Says (whole image.now number reserved) result }
 {
@@ -55,27 +53,25 @@ fn check_tree(image: &[u8], number: u32, reserved: u8) -> Checked
     let header = header_at(number);
     let kind = image[header];
     if !is_page_type(kind) {
-        return Checked::No(Fault::PageType(header));
+        return Err(Fault::PageType(header));
     }
     let start = content_start(image, header);
-    let chain = first_bad(image, end, header + 1, start);
-    if let Place::At(at) = chain {
-        return Checked::No(Fault::Freeblocks(at));
+    if let Some(at) = first_bad(image, end, header + 1, start) {
+        return Err(Fault::Freeblocks(at));
     }
     let array = array_at(header, kind);
     let cells = half_at(image, header + 3);
     if array + 2 * cells > start {
-        return Checked::No(Fault::CellCount(header + 3));
+        return Err(Fault::CellCount(header + 3));
     }
     if start > end {
-        return Checked::No(Fault::ContentStart(header + 5));
+        return Err(Fault::ContentStart(header + 5));
     }
     if image[header + 7] > MOST_FRAGMENTS {
-        return Checked::No(Fault::Fragments(header + 7));
+        return Err(Fault::Fragments(header + 7));
     }
-    let outside = first_outside(image, array, cells, start, end);
-    if let Place::At(i) = outside {
-        return Checked::No(Fault::CellPointer(array + 2 * i));
+    if let Some(i) = first_outside(image, array, cells, start, end) {
+        return Err(Fault::CellPointer(array + 2 * i));
     }
-    Checked::Yes
+    Ok(())
 }

@@ -6,13 +6,13 @@ use native.Mathlib.Omega.{arith}
 use lib.ListN.{replicate}
 use Rattle.btree_format.specs.Fields.{page, half, start_at}
 use Rattle.btree_format.specs.Rules.{ends, Says}
-use Rattle.btree_format.specs.declared.answer.Checked.TheVariants.{Yes}
+use Rattle.std.specs.Prelude.{Ok}
 
 -- type 13, no freeblock, no cell, content from 512 on, no fragment
 pub empty : List ℕ
 empty = 13 ∷ 0 ∷ 0 ∷ 0 ∷ 0 ∷ 2 ∷ 0 ∷ 0 ∷ replicate 504 0
 
-pub empty_page : Says (page empty 2 512 0) Yes
+pub empty_page : Says (page empty 2 512 0) (Ok tt)
 unfolding empty half start_at
 empty_page = (
   refl,

@@ -6,13 +6,10 @@ use native.Mathlib.Omega.{arith}
 use native.Mathlib.Decide.{dec_lt}
 use lib.ListN.{length, get_or, take}
 use Rattle.btree_format.specs.Fields.{Page, usable, header, start, pointer_at}
-use Rattle.btree_format.specs.Rules.{First, Chain, ends, bad_link, bad_size, goes_on, Unlike, Outside, Rule, same_length, page_size, usable_size, magic_string, page_type, freeblock_chain, cell_count, content_start, fragmented_bytes, cell_pointers, rules, RuleHolds, before, broken, Fails, Obeys, Says}
-use Rattle.btree_format.specs.declared.answer.Place.{Place}
-use Rattle.btree_format.specs.declared.answer.Place.TheVariants.{Nowhere, At}
+use Rattle.btree_format.specs.Rules.{First, Chain, ends, bad_link, bad_size, goes_on, Unlike, Outside, Rule, same_length, page_size, usable_size, magic_string, page_type, freeblock_chain, cell_count, content_start, fragmented_bytes, cell_pointers, rules, RuleHolds, before, broken, Fails, Obeys, Says, offset}
+use Rattle.std.specs.Prelude.{Option, None, Some, unwrap_or, Result, Ok, Err}
 use Rattle.btree_format.specs.declared.answer.Fault.{Fault}
 use Rattle.btree_format.specs.declared.answer.Fault.TheVariants.{Length, PageSize, UsableSize, Magic, PageType, Freeblocks, CellCount, ContentStart, Fragments, CellPointer}
-use Rattle.btree_format.specs.declared.answer.Checked.{Checked}
-use Rattle.btree_format.specs.declared.answer.Checked.TheVariants.{Yes, No}
 
 -- ── the first of some things ─────────────────────────────────────────────────
 pub first_once : {Fine : ℕ → Type 0} {many i j : ℕ} → First Fine many i → First Fine many j → i ≡ j
@@ -24,7 +21,7 @@ first_once {Fine} {many} {i} {j} one other = go (dec_lt i j) (dec_lt j i)
     go (no least) (no most) = omega arith
 
 -- ── the chain ────────────────────────────────────────────────────────────────
-pub chain_once : {b : List ℕ} {end link least : ℕ} {x y : Place} → Chain b end link least x → Chain b end link least y → x ≡ y
+pub chain_once : {b : List ℕ} {end link least : ℕ} {x y : Option ℕ} → Chain b end link least x → Chain b end link least y → x ≡ y
 chain_once (ends none) (ends none') = refl
 chain_once (ends none) (bad_link some stray) = absurd (some none)
 chain_once (ends none) (bad_size some placed bad) = absurd (some none)
@@ -42,8 +39,8 @@ chain_once (goes_on some placed sized rest) (bad_link some' stray) = absurd (str
 chain_once (goes_on some placed sized rest) (bad_size some' placed' bad) = absurd (bad sized)
 chain_once (goes_on some placed sized rest) (goes_on some' placed' sized' rest') = chain_once rest rest'
 
-no_place : {at : ℕ} → Nowhere ≡ At at → ⊥
-no_place same = let z : ◌≡◌ {A = ℕ} 0 1 = cc in omega arith
+no_place : {at : ℕ} → None ≡ Some at → ⊥
+no_place same = cc
 
 -- ── a rule that fails ────────────────────────────────────────────────────────
 -- 'refuses only if the named rule fails'
@@ -61,16 +58,7 @@ fails_not_holds p (CellPointer at) fails = λ holds. fails.first.bad (holds fail
 
 -- its place, or 0 where it has none
 place : Fault → ℕ
-place Length = 0
-place PageSize = 0
-place UsableSize = 0
-place (Magic at) = at
-place (PageType at) = at
-place (Freeblocks at) = at
-place (CellCount at) = at
-place (ContentStart at) = at
-place (Fragments at) = at
-place (CellPointer at) = at
+place f = unwrap_or (offset f) 0
 
 fault_at : Rule → ℕ → Fault
 fault_at same_length at = Length
@@ -104,7 +92,7 @@ FailsAt p page_size at = at ≡ 0
 FailsAt p usable_size at = at ≡ 0
 FailsAt p magic_string at = Unlike p at
 FailsAt p page_type at = at ≡ header p
-FailsAt p freeblock_chain at = Chain p.image (usable p) (header p + 1) (start p) (At at)
+FailsAt p freeblock_chain at = Chain p.image (usable p) (header p + 1) (start p) (Some at)
 FailsAt p cell_count at = at ≡ header p + 3
 FailsAt p content_start at = at ≡ header p + 5
 FailsAt p fragmented_bytes at = at ≡ header p + 7
@@ -123,7 +111,7 @@ fails_at p (ContentStart at) fails = fails.stands
 fails_at p (Fragments at) fails = fails.stands
 fails_at p (CellPointer at) fails = fails
 
-same_place : {x y : ℕ} → At x ≡ At y → x ≡ y
+same_place : {x y : ℕ} → Some x ≡ Some y → x ≡ y
 same_place same = cc
 
 place_once : (p : Page) (rule : Rule) {x y : ℕ} → FailsAt p rule x → FailsAt p rule y → x ≡ y
@@ -165,7 +153,7 @@ not_earlier : (p : Page) (f : Fault) (many : ℕ) → Fails p f → Obeys p (tak
 not_earlier p f many fails obeys less =
     fails_not_holds p f fails (obeys_one p rules many (before f) less (before_below f) obeys)
 
-fault_once : (p : Page) (f g : Fault) → Says p (No f) → Says p (No g) → f ≡ g
+fault_once : (p : Page) (f g : Fault) → Says p (Err f) → Says p (Err g) → f ≡ g
 fault_once p f g one other = go (dec_lt (before f) (before g)) (dec_lt (before g) (before f))
   where
     go : Dec (before f < before g) → Dec (before g < before f) → f ≡ g
@@ -178,15 +166,15 @@ fault_once p f g one other = go (dec_lt (before f) (before g)) (dec_lt (before g
         place_once p (broken g) (rw rule at (fails_at p f one.fails)) (fails_at p g other.fails) in
         sym (fault_again f) ∙ rw (rule, there) (fault_again g)
 
-pub says_once : (p : Page) (r s : Checked) → Says p r → Says p s → r ≡ s
-says_once p Yes Yes one other = refl
-says_once p Yes (No g) one other = absurd (not_earlier p g 10 other.fails one (before_below g))
-says_once p (No f) Yes one other = absurd (not_earlier p f 10 one.fails other (before_below f))
-says_once p (No f) (No g) one other = ap No (fault_once p f g one other)
+pub says_once : (p : Page) (r s : Result (Unit {0}) Fault) → Says p r → Says p s → r ≡ s
+says_once p (Ok u) (Ok v) one other = refl
+says_once p (Ok u) (Err g) one other = absurd (not_earlier p g 10 other.fails one (before_below g))
+says_once p (Err f) (Ok u) one other = absurd (not_earlier p f 10 one.fails other (before_below f))
+says_once p (Err f) (Err g) one other = ap Err (fault_once p f g one other)
 
 -- 'yes exactly when all the rules hold'
-pub yes_if : (p : Page) (r : Checked) → Says p r → Obeys p rules → r ≡ Yes
-yes_if p r says obeys = says_once p r Yes says obeys
+pub yes_if : (p : Page) (r : Result (Unit {0}) Fault) → Says p r → Obeys p rules → r ≡ Ok tt
+yes_if p r says obeys = says_once p r (Ok tt) says obeys
 
-pub yes_only_if : (p : Page) (r : Checked) → Says p r → r ≡ Yes → Obeys p rules
+pub yes_only_if : (p : Page) (r : Result (Unit {0}) Fault) → Says p r → r ≡ Ok tt → Obeys p rules
 yes_only_if p r says is = subst (Says p) is says

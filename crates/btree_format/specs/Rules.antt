@@ -1,13 +1,9 @@
 -- The rules of item 9 in the order of the document's fields, and what a check says of a page.
-use Rattle.std.specs.Prelude.{◌≡◌, true, List, [], ◌∷◌, ℕ, ◌+◌, ◌≤◌, ◌<◌, get_or, length, take}
+use Rattle.std.specs.Prelude.{◌≡◌, true, List, [], ◌∷◌, ℕ, ◌+◌, ◌≤◌, ◌<◌, get_or, length, take, codes, Option, None, Some, Result, Ok, Err}
 use Rattle.page_size.specs.PageSize.{is_page_size}
 use Rattle.btree_format.specs.Fields.{Page, usable, header, magic, half, kind, is_kind, cells, start, fragments, pointer_at, size_at}
-use Rattle.btree_format.specs.declared.answer.Place.{Place}
-use Rattle.btree_format.specs.declared.answer.Place.TheVariants.{Nowhere, At}
 use Rattle.btree_format.specs.declared.answer.Fault.{Fault}
 use Rattle.btree_format.specs.declared.answer.Fault.TheVariants.{Length, PageSize, UsableSize, Magic, PageType, Freeblocks, CellCount, ContentStart, Fragments, CellPointer}
-use Rattle.btree_format.specs.declared.answer.Checked.{Checked}
-use Rattle.btree_format.specs.declared.answer.Checked.TheVariants.{Yes, No}
 
 -- ── all hold, or the first that fails ────────────────────────────────────────
 -- all rules of the list hold
@@ -21,10 +17,10 @@ pub record First (Fine : ℕ → Type 0) (many i : ℕ) : Type 0 where
   pub bad : Fine i → ⊥
   pub before : (j : ℕ) → j < i → Fine j
 
--- what a search for it answers: its place, or Nowhere if all are fine
-abbrev pub Finds : (Fine : ℕ → Type 0) (many : ℕ) → Place → Type 0
-Finds Fine many Nowhere = (i : ℕ) → i < many → Fine i
-Finds Fine many (At i) = First Fine many i
+-- what a search for it answers: its place, or None if all are fine
+abbrev pub Finds : (Fine : ℕ → Type 0) (many : ℕ) → Option ℕ → Type 0
+Finds Fine many None = (i : ℕ) → i < many → Fine i
+Finds Fine many (Some i) = First Fine many i
 
 -- ── the freeblock chain ──────────────────────────────────────────────────────
 -- a block stands from `least` on, with room for its first four bytes before the usable end
@@ -38,18 +34,18 @@ pub record Sized (end block size : ℕ) : Type 0 where
   pub within : block + size ≤ end
 
 -- what is found in the chain that begins with the link at `link`, and whose blocks have to lie from `least` on: the place of the first
--- bad link or size, or Nowhere if there is none
-pub data Chain (b : List ℕ) (end : ℕ) : (link least : ℕ) → Place → Type 0 where
+-- bad link or size, or None if there is none
+pub data Chain (b : List ℕ) (end : ℕ) : (link least : ℕ) → Option ℕ → Type 0 where
   -- 'or zero if the freeblock is the last on the chain'
-  ends : {link least : ℕ} → half b link ≡ 0 → Chain b end link least Nowhere
+  ends : {link least : ℕ} → half b link ≡ 0 → Chain b end link least None
   -- a link to where no block may stand
-  bad_link : {link least : ℕ} → (half b link ≡ 0 → ⊥) → (Placed end least (half b link) → ⊥) → Chain b end link least (At link)
+  bad_link : {link least : ℕ} → (half b link ≡ 0 → ⊥) → (Placed end least (half b link) → ⊥) → Chain b end link least (Some link)
   -- a block that is too small, or that ends past the usable end
   bad_size : {link least : ℕ} → (half b link ≡ 0 → ⊥) → Placed end least (half b link)
       → (Sized end (half b link) (half b (size_at (half b link))) → ⊥)
-      → Chain b end link least (At (size_at (half b link)))
+      → Chain b end link least (Some (size_at (half b link)))
   -- a good block; the others have to lie after its end: 'in order of increasing offset'
-  goes_on : {link least : ℕ} {place : Place} → (half b link ≡ 0 → ⊥) → Placed end least (half b link)
+  goes_on : {link least : ℕ} {place : Option ℕ} → (half b link ≡ 0 → ⊥) → Placed end least (half b link)
       → Sized end (half b link) (half b (size_at (half b link)))
       → Chain b end (half b link) (half b link + half b (size_at (half b link))) place
       → Chain b end link least place
@@ -92,7 +88,7 @@ RuleHolds p page_size = is_page_size p.size ≡ true
 RuleHolds p usable_size = 480 ≤ usable p
 RuleHolds p magic_string = p.number ≡ 1 → (i : ℕ) → i < 16 → LikeMagic p.image i
 RuleHolds p page_type = is_kind (kind p) ≡ true
-RuleHolds p freeblock_chain = Chain p.image (usable p) (header p + 1) (start p) Nowhere
+RuleHolds p freeblock_chain = Chain p.image (usable p) (header p + 1) (start p) None
 -- the pointer array ends by the content start
 RuleHolds p cell_count = pointer_at p (cells p) ≤ start p
 RuleHolds p content_start = start p ≤ usable p
@@ -139,7 +135,7 @@ Fails p PageSize = RuleHolds p page_size → ⊥
 Fails p UsableSize = RuleHolds p usable_size → ⊥
 Fails p (Magic at) = Unlike p at
 Fails p (PageType at) = Breaks p page_type (header p) at
-Fails p (Freeblocks at) = Chain p.image (usable p) (header p + 1) (start p) (At at)
+Fails p (Freeblocks at) = Chain p.image (usable p) (header p + 1) (start p) (Some at)
 Fails p (CellCount at) = Breaks p cell_count (header p + 3) at
 Fails p (ContentStart at) = Breaks p content_start (header p + 5) at
 Fails p (Fragments at) = Breaks p fragmented_bytes (header p + 7) at
@@ -153,6 +149,34 @@ pub record Refuses (p : Page) (f : Fault) : Type 0 where
   pub earlier : Obeys p (take (before f) rules)
   pub fails : Fails p f
 
-abbrev pub Says : Page → Checked → Type 0
-Says p Yes = Obeys p rules
-Says p (No f) = Refuses p f
+-- yes, or what is wrong
+abbrev pub Says : Page → Result (Unit {0}) Fault → Type 0
+Says p (Ok _) = Obeys p rules
+Says p (Err f) = Refuses p f
+
+-- ── what is told of a fault ──────────────────────────────────────────────────
+-- where in the page the field stands that breaks the rule
+abbrev pub offset : Fault → Option ℕ
+offset Length = None
+offset PageSize = None
+offset UsableSize = None
+offset (Magic at) = Some at
+offset (PageType at) = Some at
+offset (Freeblocks at) = Some at
+offset (CellCount at) = Some at
+offset (ContentStart at) = Some at
+offset (Fragments at) = Some at
+offset (CellPointer at) = Some at
+
+-- the rule's name, as it is printed
+abbrev pub name : Fault → List ℕ
+name Length = codes "length"
+name PageSize = codes "page size"
+name UsableSize = codes "usable size"
+name (Magic at) = codes "magic"
+name (PageType at) = codes "page type"
+name (Freeblocks at) = codes "freeblock chain"
+name (CellCount at) = codes "cell count"
+name (ContentStart at) = codes "content start"
+name (Fragments at) = codes "fragmented bytes"
+name (CellPointer at) = codes "cell pointer"

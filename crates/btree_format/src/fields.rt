@@ -1,5 +1,8 @@
 // Where the fields stand, and what they say.
-ghost use Rattle.std.specs.Prelude.{◌≡◌, ◌+◌, ◌*◌, ◌-◌, ◌≤◌, leb, length};
+//
+// What they need is an image and a place in it, and not a page as one value: a database's header, which is no page, is read with them
+// too.
+ghost use Rattle.std.specs.Prelude.{◌≡◌, ◌+◌, ◌-◌, ◌≤◌, leb, length};
 ghost use Rattle.btree_format.specs.Fields.{half, header_at, is_interior, is_kind, start_at, array_at};
 
 // The least number of bytes of a page without the reserved ones.
@@ -17,7 +20,7 @@ pub fn header_at(number: u32) -> usize
 pub fn is_usable(size: usize, reserved: u8) -> bool
     ensures { result ≡ leb (480 + reserved) size }
 {
-    LEAST_USABLE + reserved as usize <= size
+    LEAST_USABLE + usize::from(reserved) <= size
 }
 
 // Where the usable part of a page ends, if the last `reserved` bytes are reserved.
@@ -25,40 +28,37 @@ pub fn usable_end(length: usize, reserved: u8) -> usize
     requires { reserved ≤ length }
     ensures { result ≡ length - reserved }
 {
-    length - reserved as usize
+    length - usize::from(reserved)
 }
 
 // The big-endian number of 2 bytes at a place.
+#[tactic(auto, unfolding(crate::specs::Fields::half))]
 pub fn half_at(image: &[u8], at: usize) -> usize
     requires { at + 2 ≤ length image.now }
     ensures value { result ≡ half image.now at }
     ensures upper_bound { result ≤ 65535 }
 {
-    number(image[at], image[at + 1])
+    usize::from(u16::from_be_bytes([image[at], image[at + 1]]))
 }
 
-// The number of two bytes, the higher first.
-fn number(high: u8, low: u8) -> usize
-    ensures value { result ≡ high * 256 + low }
-    ensures upper_bound { result ≤ 65535 }
-{
-    wide(high) * 256 + wide(low)
-}
-
+// Whether a page's first byte is a page type. The type stays that byte, since `array_at` answers for any.
 pub fn is_page_type(kind: u8) -> bool
     ensures { result ≡ is_kind kind }
 {
-    is_interior(kind) | (kind == 10) | (kind == 13)
+    matches!(kind, 2 | 5 | 10 | 13)
 }
 
 // Where the cell content area begins, as the page header at `header` says.
+#[tactic(auto, unfolding(crate::specs::Fields::start_at))]
 pub fn content_start(image: &[u8], header: usize) -> usize
     requires { header + 8 ≤ length image.now }
     ensures value { result ≡ start_at image.now header }
     ensures upper_bound { result ≤ 65536 }
 {
-    let stored = half_at(image, header + 5);
-    if stored == 0 { 65536 } else { stored }
+    match half_at(image, header + 5) {
+        0 => 65536,
+        stored => stored,
+    }
 }
 
 // Where the cell pointer array begins: after the page header at `header`, whose length depends on the page type.
@@ -77,11 +77,5 @@ pub fn array_at(header: usize, kind: u8) -> usize
 fn is_interior(kind: u8) -> bool
     ensures { result ≡ is_interior kind }
 {
-    (kind == 2) | (kind == 5)
-}
-
-fn wide(byte: u8) -> usize
-    ensures { result ≡ byte }
-{
-    byte as usize
+    matches!(kind, 2 | 5)
 }

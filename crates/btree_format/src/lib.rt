@@ -1,7 +1,7 @@
 // A page of a database as "Database File Format" has it (1.2 to 1.6): where the fields of a b-tree page's header stand and what they
 // say, and what a check by the rules of document 02's item 9 answers.
 //
-//     answer.rt   Checked: yes, or the first Fault; Place: where the first fault of some kind stands
+//     answer.rt   Fault: a rule that fails, and where; printed it is the rule's name
 //     fields.rt   the header's place, its fields, where the cell pointer array begins
 //     magic.rt    first_unlike: the string that a database begins with
 //
@@ -14,7 +14,7 @@ mod answer;
 mod fields;
 mod magic;
 
-pub use answer::{Checked, Fault, Place};
+pub use answer::Fault;
 pub use fields::{
     array_at, content_start, half_at, header_at, is_page_type, is_usable, usable_end,
 };

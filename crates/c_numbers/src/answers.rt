@@ -6,10 +6,10 @@ ghost use Rattle.c_numbers.specs.Head.{hand_key};
 ghost use Rattle.c_numbers.specs.Put.{PutAnswer};
 
 use answer::{Answered, code_of, value_of};
-use listing::Listing;
+use listing::ListingError;
 use page::PageCache;
 
-// No key: one above the largest.
+// No key: one above the largest. C has no Option, and `hand_key` is the definition of the number that it gets.
 const NONE: u64 = 1 << 32;
 
 // The key of the hand's page, or none if nothing is held. The hand of sound memory is a slot of it; a hand out of range has no page.
@@ -23,35 +23,35 @@ fn hand_key(slots: &[u64], head: PageCache) -> u64
     if hand.0 as usize >= slots.len() / 4 {
         return NONE;
     }
-    let entry = pool::load(slots, hand);
-    let key = entry.key;
-    key.0 as u64
+    pool::load(slots, hand).key.0 as u64
 }
 
-// Writes the answer's numbers, and hands its code back.
+// Writes the answer's numbers, and hands its code back. A slice and no array, since an answer is lent by C with any length: `pc_apply` tests
+// it (the edit `apply_writes_past_a_short_answer`).
 pub fn put_answer(answer: &mut [u64], slots: &[u64], answered: Answered) -> u32
     requires { length answer.old ≡ 6 }
     ensures { PutAnswer (entries slots.now) answered answer.new result }
 {
     let head = answered.head;
-    let said = answered.answer;
-    let code = code_of(said);
-    answer[0] = code as u64;
-    answer[1] = value_of(said) as u64;
-    answer[2] = answered.passed;
-    answer[3] = head.held as u64;
-    answer[4] = hand_key(slots, head);
-    answer[5] = answered.listed as u64;
-    code as u32
+    let code = code_of(answered.answer);
+    answer.copy_from_slice(&[
+        u64::from(code),
+        u64::from(value_of(answered.answer)),
+        answered.passed,
+        u64::from(head.held),
+        hand_key(slots, head),
+        u64::from(answered.listed),
+    ]);
+    u32::from(code)
 }
 
-// The code of a listing.
-pub fn listing_code(listed: Listing) -> u32
+// The code of a listing: C has no enum.
+pub fn listing_code(listed: Result<u32, ListingError>) -> u32
     ensures { result ≡ code_of listed }
 {
     match listed {
-        Listing::Done(_) => 0,
-        Listing::NotSound => 1,
-        Listing::ShortList => 3,
+        Ok(_) => 0,
+        Err(ListingError::NotSound) => 1,
+        Err(ListingError::ShortList) => 3,
     }
 }

@@ -6,8 +6,9 @@
 //     spill_switch.rt   set_spill_enabled     the head alone
 //
 // A call asks for the slots and the index by key of sound memory (specs/Parts.antt of crate answer), or for the head alone, and tests its
-// arguments itself, before the rules. Callers may rely on this: for every cache that the memory holds at entry, a call comes
-// to the outcome of the model's `step` for it. So a call that a test refuses has changed nothing.
+// arguments itself, before the rules. None takes a `LentMemory`, since what is not lent is not changed. Callers may rely on this: for
+// every cache that the memory holds at entry, a call comes to the outcome of the model's `step` for it. So a call that a test refuses
+// has changed nothing.
 #![tactic(auto)]
 
 mod notices;

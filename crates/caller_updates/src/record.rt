@@ -3,7 +3,6 @@ ghost use Rattle.model.specs.Call.{write};
 ghost use Rattle.answer.specs.Parts.{SoundParts, FollowsStep};
 
 use answer::{Answer, Answered};
-use moves::Seat;
 use page::{PageCache, PageCacheKey, PageRecord};
 
 // The page under the key has this record from now on.
@@ -20,7 +19,7 @@ pub fn write_record(
     if PageRecord::ALL_FLAGS < page.flags {
         return Answered::plain(Answer::BadRecord, head);
     }
-    let Seat::At(s) = moves::seat_of(by_key, slots, head.held, key) else {
+    let Ok(s) = moves::seat_of(by_key, slots, head.held, key) else {
         return Answered::plain(Answer::Absent, head);
     };
     moves::rewrite_at(slots, s, page);

@@ -14,6 +14,6 @@ pub fn set_spill_enabled(head: PageCache, on: bool) -> Answered
     ensures { (m : Memory) (c : Cache) → Holds m head c → Follows (step (switch on) c) m result }
 {
     let mut switched = head;
-    switched.spill = on as u8;
+    switched.spill = u8::from(on);
     Answered::plain(Answer::Done(0), switched)
 }

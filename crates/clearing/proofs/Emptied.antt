@@ -1,10 +1,8 @@
 -- All pages are removed: memory as after creation holds a cache with nothing in it, and the spill switch is what it was.
 use mathlib.Core.Path.{◌≡◌, refl, ap, subst}
-use mathlib.Core.List.{List, [], ◌∷◌, append-nil}
-use mathlib.Core.Logic.{⊎_elim}
+use mathlib.Core.List.{List, [], append-nil}
 use Prim.Native.Nat.{ℕ}
 use native.Mathlib.Omega.{arith}
-use types.Run.{OneOf}
 use Rattle.page.specs.declared.cache.PageCache.{PageCache}
 use Rattle.model.specs.Cache.{Cache, fresh, with_estimate, with_row}
 use Rattle.model.specs.Call.{Outcome, answer, listing}
@@ -19,9 +17,9 @@ use Rattle.answer.specs.Answer.{Wrote, MatchesOutcome}
 use Rattle.answer.specs.declared.answer.Answer.TheVariants as answers
 use Rattle.answer.proofs.Steps.{plain_follows, listing_follows, comes_as}
 use Rattle.soundness.proofs.Joining.{holds_agreeing}
-use Rattle.creating.specs.Creation.{CreatedWell, done, too_large, bad_lengths, Creates}
-use Rattle.creating.specs.declared.creating.Created.{Created}
-use Rattle.creating.specs.declared.creating.Created.TheVariants.{Done, BadLengths, TooLarge}
+use Rattle.creating.specs.Creation.{CreatedWell, Creation, done, too_large, bad_lengths, Creates}
+use Rattle.creating.specs.declared.creating.CreationError.TheVariants.{BadLengths, TooLarge}
+use Rattle.std.specs.Prelude.{Ok, Err}
 use Rattle.clearing.specs.Clear.{handles_of}
 use Rattle.clearing.proofs.Handles.{handles_long}
 
@@ -36,18 +34,15 @@ head_switched spill head = record {
 }
 
 -- creation wasn't refused, and so its answer is none of the two refusals
-pub record IsDone (r : Created) : Type 0 where
+pub record IsDone (r : Creation) : Type 0 where
   pub new : PageCache
-  pub done : r ≡ Done new
-
-pub no_refusal : OneOf (1 ∷ 2 ∷ []) 0 → ⊥
-no_refusal tag = ⊎_elim (λ (q : ◌≡◌ {A = ℕ} 0 1). omega arith) (λ (q : ◌≡◌ {A = ℕ} 0 2). omega arith) tag
+  pub done : r ≡ Ok new
 
 module _ {m : Memory} {head : PageCache} {c : Cache} (H : Holds m head c) where
-  pub never_refused : (m' : Memory) (r : Created) → Creates m head.capacity r m' → IsDone r
-  never_refused m' (Done new) made = record { new = new; done = refl }
-  never_refused m' BadLengths (bad_lengths refused) = absurd (refused.lengths (holds_agreeing H))
-  never_refused m' TooLarge (too_large refused) = absurd (omega (arith, refused.above, H.headed.capacity, H.limits.capacity, H.lengths.by_key))
+  pub never_refused : (m' : Memory) (r : Creation) → Creates m head.capacity r m' → IsDone r
+  never_refused m' (Ok new) made = record { new = new; done = refl }
+  never_refused m' (Err BadLengths) (bad_lengths refused) = absurd (refused.lengths (holds_agreeing H))
+  never_refused m' (Err TooLarge) (too_large refused) = absurd (omega (arith, refused.above, H.headed.capacity, H.limits.capacity, H.lengths.by_key))
 
   module _ {m' : Memory} {new : PageCache} (made : CreatedWell m head.capacity new m') where
     holds_fresh : Holds m' new (fresh c.size c.capacity)
@@ -74,9 +69,5 @@ module _ {m : Memory} {head : PageCache} {c : Cache} (H : Holds m head c) where
         })
 
 -- once creation has answered
-pub says_done : (m : Memory) (capacity : ℕ) (r : Created) (m' : Memory) {new : PageCache} → r ≡ Done new → Creates m capacity r m'
-    → CreatedWell m capacity new m'
-says_done m capacity r m' {new} is made = of_done (subst (λ (x : Created). Creates m capacity x m') is made)
-  where
-    of_done : Creates m capacity (Done new) m' → CreatedWell m capacity new m'
-    of_done (done well) = well
+pub made_well : {m : Memory} {capacity : ℕ} {new : PageCache} {m' : Memory} → Creates m capacity (Ok new) m' → CreatedWell m capacity new m'
+made_well (done well) = well

@@ -1,6 +1,6 @@
 -- What hinders a clear: the index by key is the model's walk, so that the first dirty page along it is the first of
 -- those that the model's rule asks for.
-use mathlib.Core.Path.{◌≡◌, refl, sym, ap, ◌∙◌, subst}
+use mathlib.Core.Path.{◌≡◌, refl, sym, ap, ◌∙◌}
 use mathlib.Core.Bool.{Bool, true, false}
 use mathlib.Core.List.{List, [], ◌++◌}
 use Prim.Native.Nat.{ℕ, ◌+◌, ◌≤◌, ◌<◌}
@@ -25,9 +25,7 @@ use Rattle.memory.proofs.Walks.{walk_at, walk_from, walk_by_key, walk_next, walk
 use Rattle.answer.specs.Answer.{plainly, MatchesOutcome}
 use Rattle.answer.specs.declared.answer.Answer.TheVariants as answers
 use Rattle.answer.proofs.Steps.{plain_comes, comes_as}
-use Rattle.clearing.specs.Clear.{hindering, First, FirstIs}
-use Rattle.clearing.specs.declared.clearing.Hindrance.{Hindrance}
-use Rattle.clearing.specs.declared.clearing.Hindrance.TheVariants.{Nothing, Dirty}
+use Rattle.clearing.specs.Clear.{hindering, First}
 
 -- ── the first dirty page ─────────────────────────────────────────────────────
 abbrev is_dirty : Page → Bool
@@ -71,14 +69,6 @@ module _ {slots by_key : List ℕ} {n i : ℕ} (index : Index (names Key (entrie
   clean_done end =
       let whole : i ≡ n = omega (arith, g.within) in
       ap (λ (k : ℕ). those is_dirty (walk slots by_key k)) (sym whole) ∙ g.none
-
--- once the answer is known
-module _ (pages : List Page) (r : Hindrance) where
-  pub says_nothing : r ≡ Nothing → FirstIs pages r → pages ≡ []
-  says_nothing = subst (FirstIs pages)
-
-  pub says_dirty : {key : PageCacheKey} → r ≡ Dirty key → FirstIs pages r → First pages key.0
-  says_dirty = subst (FirstIs pages)
 
 -- ── the rule ─────────────────────────────────────────────────────────────────
 by_hindrance : (dirty_too : Bool) (c : Cache) → on_clear dirty_too c ≡ clear_unless (hindering dirty_too (sorted_by_key c.row)) c

@@ -1,13 +1,12 @@
 -- The removal of all pages (01, rule 11).
-use Rattle.std.specs.Prelude.{◌≡◌, Bool, true, false, List, [], ◌∷◌, map, ℕ, ◌≤◌, length}
+use Rattle.std.specs.Prelude.{◌≡◌, Bool, true, false, List, [], ◌∷◌, map, ℕ, ◌≤◌, length, Option, None, Some}
 use Rattle.page.specs.Record.{dirty}
 use Rattle.pool.specs.Slots.{entries}
 use Rattle.sorted_index.specs.Index.{Index}
 use Rattle.sorted_index.specs.Names.{names}
 use Rattle.sorted_index.specs.declared.search.By.TheVariants.{Key}
 use Rattle.model.specs.Row.{Page, Row, those}
-use Rattle.clearing.specs.declared.clearing.Hindrance.{Hindrance}
-use Rattle.clearing.specs.declared.clearing.Hindrance.TheVariants.{Nothing, Dirty}
+use Rattle.page.specs.declared.names.PageCacheKey.{PageCacheKey}
 
 abbrev pub handles_of : Row → List ℕ
 handles_of row = map (λ e. e.page.handle) row
@@ -24,10 +23,10 @@ pub record First (pages : List Page) (key : ℕ) : Type 0 where
   pub parts : pages ≡ page ∷ rest
   pub named : key ≡ page.key
 
--- the answer is the first of the pages, or nothing if there is none
-abbrev pub FirstIs : List Page → Hindrance → Type 0
-FirstIs pages Nothing = pages ≡ []
-FirstIs pages (Dirty key) = First pages key.0
+-- it is the key of the first of the pages, if there is one
+abbrev pub FirstIs : List Page → Option PageCacheKey → Type 0
+FirstIs pages None = pages ≡ []
+FirstIs pages (Some key) = First pages key.0
 
 -- an index of n slots, and a list with a place for each
 pub record CanListAll (slots by_key list : List ℕ) (n : ℕ) : Type 0 where

@@ -1,14 +1,13 @@
 -- A call that lists nothing leaves a list alone, so that it need not be lent one.
+use Rattle.std.specs.Prelude.{Some, None}
 use mathlib.Core.Bool.{Bool}
 use mathlib.Core.List.{List, []}
 use mathlib.Core.Option.{Option, none, some}
 use mathlib.Core.Path.{◌≡◌, refl}
 use Prim.Native.Nat.{ℕ, zero, suc}
 use Rattle.page.specs.Cache.{page_one}
-use Rattle.page.specs.Record.{one_holder_less}
+use Rattle.page.specs.Record.{Holders, one_holder_less}
 use Rattle.page.specs.declared.record.PageRecord.{PageRecord}
-use Rattle.page.specs.declared.record.Recount.{Recount}
-use Rattle.page.specs.declared.record.Recount.TheVariants.{Now, AtLimit}
 use Rattle.model.specs.Row.{Page, Entry, find}
 use Rattle.model.specs.Cache.{Cache, up, down}
 use Rattle.model.specs.Call.{Call, Outcome, peek, release, notify_dirty, notify_spilled, write, switch}
@@ -50,9 +49,9 @@ pub quiet_release : (key : ℕ) → Quiet (release key)
 unfolding act
 quiet_release key = record { silent = λ c. go (find key c.row) c }
   where
-    less : (r : Recount) (p : Page) (c : Cache) → (release_with key r p c).listed ≡ []
-    less (Now holders) p c = refl
-    less AtLimit p c = refl
+    less : (r : Holders) (p : Page) (c : Cache) → (release_with key r p c).listed ≡ []
+    less (Some holders) p c = refl
+    less None p c = refl
 
     go : (found : Option Entry) (c : Cache) → (release_found key found c).listed ≡ []
     go none c = refl

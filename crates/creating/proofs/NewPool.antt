@@ -26,9 +26,9 @@ use Rattle.model.specs.Cache.{fresh}
 use Rattle.memory.specs.Memory.{Memory}
 use Rattle.memory.specs.Holds.{Holds}
 use Rattle.soundness.specs.Checks.{Agreeing, MarksFit}
-use Rattle.creating.specs.Creation.{last_marks, free_marks, fresh_memory, CreatedWell, code_of, head_of, Given, done, too_large, bad_lengths, Creates}
-use Rattle.creating.specs.declared.creating.Created.{Created}
-use Rattle.creating.specs.declared.creating.Created.TheVariants.{Done, BadLengths, TooLarge}
+use Rattle.creating.specs.Creation.{Creation, last_marks, free_marks, fresh_memory, CreatedWell, code_of, head_of, Given, done, too_large, bad_lengths, Creates}
+use Rattle.std.specs.Prelude.{Ok, Err}
+use Rattle.creating.specs.declared.creating.CreationError.TheVariants.{BadLengths, TooLarge}
 
 -- ── a loop that fills a slice ────────────────────────────────────────────────
 -- the first i places hold x, and the others what they held
@@ -228,23 +228,23 @@ created_well {m} {m'} {capacity} {head} a within slots keys handles marks new =
     }
 
 -- the number and the head determine the answer
-answer_told : (r r' : Created) → code_of r ≡ code_of r' → head_of r ≡ head_of r' → r ≡ r'
-answer_told (Done h) (Done h') code head = ap Done (some-injective h h' head)
-answer_told (Done h) BadLengths code head = absurd (omega (arith, code))
-answer_told (Done h) TooLarge code head = absurd (omega (arith, code))
-answer_told BadLengths (Done h') code head = absurd (omega (arith, code))
-answer_told BadLengths BadLengths code head = refl
-answer_told BadLengths TooLarge code head = absurd (omega (arith, code))
-answer_told TooLarge (Done h') code head = absurd (omega (arith, code))
-answer_told TooLarge BadLengths code head = absurd (omega (arith, code))
-answer_told TooLarge TooLarge code head = refl
+answer_told : (r r' : Creation) → code_of r ≡ code_of r' → head_of r ≡ head_of r' → r ≡ r'
+answer_told (Ok h) (Ok h') code head = ap Ok (some-injective h h' head)
+answer_told (Ok h) (Err BadLengths) code head = absurd (omega (arith, code))
+answer_told (Ok h) (Err TooLarge) code head = absurd (omega (arith, code))
+answer_told (Err BadLengths) (Ok h') code head = absurd (omega (arith, code))
+answer_told (Err BadLengths) (Err BadLengths) code head = refl
+answer_told (Err BadLengths) (Err TooLarge) code head = absurd (omega (arith, code))
+answer_told (Err TooLarge) (Ok h') code head = absurd (omega (arith, code))
+answer_told (Err TooLarge) (Err BadLengths) code head = absurd (omega (arith, code))
+answer_told (Err TooLarge) (Err TooLarge) code head = refl
 
 -- creation is deterministic: one outcome for one memory and one capacity
-pub record SameCreation (r : Created) (m : Memory) (r' : Created) (m' : Memory) : Type 0 where
+pub record SameCreation (r : Creation) (m : Memory) (r' : Creation) (m' : Memory) : Type 0 where
   pub answer : r ≡ r'
   pub memory : m ≡ m'
 
-pub created_same : (m : Memory) (capacity : ℕ) (r r' : Created) (n n' : Memory) → Creates m capacity r n → Creates m capacity r' n' → SameCreation r n r' n'
+pub created_same : (m : Memory) (capacity : ℕ) (r r' : Creation) (n n' : Memory) → Creates m capacity r n → Creates m capacity r' n' → SameCreation r n r' n'
 created_same m capacity r r' n n' p q =
     let same : (code_of r ≡ code_of r') × (head_of r ≡ head_of r') × (n ≡ n') = given_same p q in
     record { answer = answer_told r r' same.0 same.1; memory = same.2 }

@@ -1,5 +1,5 @@
 -- Creation (01, rule 1 and codes 0, 15 and 16): what is answered, and every word of what is left.
-use Rattle.std.specs.Prelude.{◌≡◌, List, [], ◌∷◌, ◌++◌, ℕ, zero, suc, ◌*◌, ◌-◌, ◌/◌, ◌%◌, ◌^◌, ◌≤◌, ◌<◌, length, replicate}
+use Rattle.std.specs.Prelude.{◌≡◌, List, [], ◌∷◌, ◌++◌, ℕ, zero, suc, ◌*◌, ◌-◌, ◌/◌, ◌%◌, ◌^◌, ◌≤◌, ◌<◌, length, replicate, Result, Ok, Err}
 use Rattle.std.proofs.Math.Option.{Option, none, some}
 use Rattle.page.specs.Cache.{created}
 use Rattle.page.specs.declared.cache.PageCache.{PageCache}
@@ -7,8 +7,8 @@ use Rattle.model.specs.Cache.{fresh}
 use Rattle.memory.specs.Memory.{Memory}
 use Rattle.memory.specs.Holds.{Holds}
 use Rattle.soundness.specs.Checks.{Agreeing}
-use Rattle.creating.specs.declared.creating.Created.{Created}
-use Rattle.creating.specs.declared.creating.Created.TheVariants.{Done, BadLengths, TooLarge}
+use Rattle.creating.specs.declared.creating.CreationError.{CreationError}
+use Rattle.creating.specs.declared.creating.CreationError.TheVariants.{BadLengths, TooLarge}
 
 -- ── the memory after ─────────────────────────────────────────────────────────
 -- the word of marks for the slots that don't fill a whole word, if there are any: a 1 bit for each, and unused bits are 0
@@ -50,17 +50,20 @@ pub record RefusedCapacity (m : Memory) (capacity : ℕ) (m' : Memory) : Type 0 
   pub memory : m' ≡ m
 
 -- ── the promise ──────────────────────────────────────────────────────────────
+-- a head, or why there is none
+abbrev pub Creation : Type 0
+Creation = Result PageCache CreationError
+
 -- 01's number for an answer
-abbrev pub code_of : Created → ℕ
-code_of (Done head) = 0
-code_of BadLengths = 16
-code_of TooLarge = 15
+abbrev pub code_of : Creation → ℕ
+code_of (Ok head) = 0
+code_of (Err BadLengths) = 16
+code_of (Err TooLarge) = 15
 
 -- the head that comes with it
-abbrev pub head_of : Created → Option PageCache
-head_of (Done head) = some head
-head_of BadLengths = none
-head_of TooLarge = none
+abbrev pub head_of : Creation → Option PageCache
+head_of (Ok head) = some head
+head_of (Err why) = none
 
 -- 01's table for a creation: what it means that a number is given, with a head or without one. No other number is given
 pub data Given (m : Memory) (capacity : ℕ) (m' : Memory) : (code : ℕ) → Option PageCache → Type 0 where
@@ -69,5 +72,5 @@ pub data Given (m : Memory) (capacity : ℕ) (m' : Memory) : (code : ℕ) → Op
   bad_lengths : RefusedLengths m m' → Given m capacity m' 16 none
 
 -- what a creation may answer and leave
-abbrev pub Creates : Memory → ℕ → Created → Memory → Type 0
+abbrev pub Creates : Memory → ℕ → Creation → Memory → Type 0
 Creates m capacity r m' = Given m capacity m' (code_of r) (head_of r)

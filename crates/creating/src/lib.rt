@@ -7,4 +7,4 @@
 
 mod creating;
 
-pub use creating::{Created, create};
+pub use creating::{CreationError, create};

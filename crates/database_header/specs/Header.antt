@@ -1,13 +1,11 @@
 -- The header of a database, from the document's section 1.3, and what opening one says of it.
-use Rattle.std.specs.Prelude.{◌≡◌, true, cond, List, [], ◌∷◌, ℕ, ◌-◌, ◌≤◌, ◌<◌, eqb, get_or, length, take}
+use Rattle.std.specs.Prelude.{◌≡◌, true, cond, List, [], ◌∷◌, ℕ, ◌-◌, ◌≤◌, ◌<◌, eqb, get_or, length, take, codes, Option, None, Some, Result, Ok, Err}
 use Rattle.page_size.specs.PageSize.{is_page_size}
 use Rattle.btree_format.specs.Fields.{half}
 use Rattle.btree_format.specs.Rules.{All, First, LikeMagic}
 use Rattle.database_header.specs.declared.header.Database.{Database}
 use Rattle.database_header.specs.declared.header.Fault.{Fault}
 use Rattle.database_header.specs.declared.header.Fault.TheVariants.{Length, Magic, PageSize, UsableSize}
-use Rattle.database_header.specs.declared.header.Opened.{Opened}
-use Rattle.database_header.specs.declared.header.Opened.TheVariants.{Refused, Database as Found}
 
 -- ── the fields ───────────────────────────────────────────────────────────────
 -- 16: 'to specify a 65536-byte page size, the value at offset 16 is 0x00 0x01', 'a big-endian 1'
@@ -68,6 +66,21 @@ pub record Describes (b : List ℕ) (d : Database) : Type 0 where
   pub good : Obeys b rules
   pub stored : d ≡ database_of b
 
-abbrev pub Opens : List ℕ → Opened → Type 0
-Opens b (Refused f) = Refuses b f
-Opens b (Found d) = Describes b d
+abbrev pub Opens : List ℕ → Result Database Fault → Type 0
+Opens b (Ok d) = Describes b d
+Opens b (Err f) = Refuses b f
+
+-- ── what is told of a fault ──────────────────────────────────────────────────
+-- where in the header the field stands that is wrong
+abbrev pub offset : Fault → Option ℕ
+offset Length = None
+offset (Magic at) = Some at
+offset PageSize = Some 16
+offset UsableSize = Some 20
+
+-- the rule's name, as it is printed
+abbrev pub name : Fault → List ℕ
+name Length = codes "length"
+name (Magic at) = codes "magic"
+name PageSize = codes "page size"
+name UsableSize = codes "usable size"

@@ -1,12 +1,13 @@
 // The header of a database.
 ghost use Rattle.std.specs.Prelude.{◌≡◌, ◌≤◌, length};
-ghost use Rattle.database_header.specs.Header.{page_size_of, Opens};
+ghost use Rattle.database_header.specs.Header.{page_size_of, Opens, offset};
 
-use btree_format::{Place, first_unlike, half_at, is_usable};
+use btree_format::{first_unlike, half_at, is_usable};
 use page_size::is_page_size;
+use std::fmt;
 
 // What the header says of every page.
-#[derive(Clone, Copy)]
+#[derive(Clone, Copy, Debug, PartialEq, Eq)]
 pub struct Database {
     // In bytes: a power of two from 512 to 65,536, if `open` gave it.
     pub page_size: u32,
@@ -15,7 +16,7 @@ pub struct Database {
 }
 
 // What can be wrong with a header, in the order in which it is looked at.
-#[derive(Clone, Copy)]
+#[derive(Clone, Copy, Debug, PartialEq, Eq)]
 pub enum Fault {
     // Fewer than 100 bytes.
     Length,
@@ -26,45 +27,77 @@ pub enum Fault {
     UsableSize,
 }
 
-#[derive(Clone, Copy)]
-pub enum Opened {
-    // The first fault.
-    Refused(Fault),
-    Database(Database),
+impl Fault {
+    // Where in the header the field stands that is wrong.
+    pub fn offset(self) -> Option<usize>
+        ensures { result ≡ offset self }
+    {
+        match self {
+            Fault::Length => None,
+            Fault::Magic(at) => Some(at),
+            Fault::PageSize => Some(PAGE_SIZE_AT),
+            // The usable size is the page size less the reserved bytes, whose number is stored there.
+            Fault::UsableSize => Some(RESERVED_AT),
+        }
+    }
+}
+
+// The rule's name.
+impl fmt::Display for Fault {
+    ghost use Rattle.std.specs.Prelude.{Some};
+    ghost use Rattle.database_header.specs.Header.{name};
+
+    ghost output = { λ f. Some (name f) };
+
+    fn fmt<W: fmt::Write>(&self, f: &mut fmt::Formatter<W>) -> fmt::Result {
+        f.write_str(match self {
+            Fault::Length => "length",
+            Fault::Magic(_) => "magic",
+            Fault::PageSize => "page size",
+            Fault::UsableSize => "usable size",
+        })
+    }
 }
 
 pub const HEADER_LENGTH: usize = 100;
 
+// Where the page size and the number of reserved bytes stand.
+const PAGE_SIZE_AT: usize = 16;
+
+const RESERVED_AT: usize = 20;
+
 // The header that a file begins with. Only its first 100 bytes are looked at.
-pub fn open(bytes: &[u8]) -> Opened
+pub fn open(bytes: &[u8]) -> Result<Database, Fault>
     ensures { Opens bytes.now result }
 {
     if bytes.len() < HEADER_LENGTH {
-        return Opened::Refused(Fault::Length);
+        return Err(Fault::Length);
     }
-    let unlike = first_unlike(bytes);
-    if let Place::At(at) = unlike {
-        return Opened::Refused(Fault::Magic(at));
+    if let Some(at) = first_unlike(bytes) {
+        return Err(Fault::Magic(at));
     }
     let page_size = page_size_of(bytes);
     if !is_page_size(page_size) {
-        return Opened::Refused(Fault::PageSize);
+        return Err(Fault::PageSize);
     }
-    let reserved = bytes[20];
+    let reserved = bytes[RESERVED_AT];
     if !is_usable(page_size as usize, reserved) {
-        return Opened::Refused(Fault::UsableSize);
+        return Err(Fault::UsableSize);
     }
-    Opened::Database(Database {
+    Ok(Database {
         page_size,
         reserved,
     })
 }
 
 // The page size that is stored, good or not: 65,536 doesn't fit, and is stored as 1.
+#[tactic(auto, unfolding(crate::specs::Header::page_size_of))]
 fn page_size_of(bytes: &[u8]) -> u32
     requires { 18 ≤ length bytes.now }
     ensures { result ≡ page_size_of bytes.now }
 {
-    let stored = half_at(bytes, 16);
-    if stored == 1 { 65536 } else { stored as u32 }
+    match half_at(bytes, PAGE_SIZE_AT) {
+        1 => 65536,
+        stored => stored as u32,
+    }
 }

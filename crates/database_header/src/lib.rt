@@ -11,4 +11,4 @@
 
 mod header;
 
-pub use header::{Database, Fault, HEADER_LENGTH, Opened, open};
+pub use header::{Database, Fault, HEADER_LENGTH, open};

@@ -1,24 +1,24 @@
 -- A deletion at a slot. What is loaded there is the page that stands there, so the reason against it is the model's; and the
 -- model's rule 8 goes by that reason alone.
-use mathlib.Core.Path.{◌≡◌, refl, sym, ap, ◌∙◌, subst₃}
+use Rattle.std.specs.Prelude.{Ok, Err}
+use mathlib.Core.Path.{◌≡◌, refl, sym, ap, ◌∙◌, subst, subst₃}
 use mathlib.Core.List.{List, [], ◌∷◌}
 use mathlib.Core.Option.{Option, none}
-use mathlib.Core.Logic.{◌≢◌, ◌⊎◌, inl, inr}
 use Prim.Native.Nat.{ℕ, ◌≤◌, ◌<◌}
 use native.Mathlib.Omega.{arith}
 use lib.ListN.{length, get_or, set}
 use Rattle.page.specs.Record.{deletable}
 use Rattle.page.specs.declared.cache.PageCache.{PageCache}
 use Rattle.page.specs.declared.entry.PageCacheEntry.{PageCacheEntry}
-use Rattle.page.specs.declared.record.Deletable.{Deletable}
-use Rattle.page.specs.declared.record.Deletable.TheVariants.{Yes}
+use Rattle.page.specs.declared.record.Hindrance.{Hindrance}
 use Rattle.pool.specs.Slots.{blank, entries}
 use Rattle.model.specs.Cache.{Cache}
 use Rattle.model.specs.Call.{Outcome, delete, answer}
 use Rattle.model.specs.Row.{Page, Entry, find}
 use Rattle.model.specs.Rules.{deleting, delete_found}
 use Rattle.model.specs.Step.{act, step}
-use Rattle.memory.specs.Memory.{Memory}
+use Rattle.memory.specs.Memory.{Memory, memory_seen}
+use Rattle.memory.specs.declared.lent.LentView.{LentView}
 use Rattle.memory.specs.Holds.{Holds, seen}
 use Rattle.memory.proofs.Standing.{holds_standing}
 use Rattle.answer.specs.Answer.{code_of, value_of, refused_as, plainly, MatchesOutcome}
@@ -30,11 +30,9 @@ use Rattle.moves.specs.Moves.{StandsAt, KeyAt, Removes}
 use Rattle.moves.proofs.Removal.{some_held}
 use Rattle.deletion.specs.Deletion.{CanDelete, Goes, Stays}
 
--- a reason has another number than `Yes`, which is 0
-pub some_reason : ◌≡◌ {A = ℕ} 0 1 ⊎ (◌≡◌ {A = ℕ} 0 2 ⊎ ◌≡◌ {A = ℕ} 0 3) → ⊥
-some_reason (inl q) = omega arith
-some_reason (inr (inl q)) = omega arith
-some_reason (inr (inr q)) = omega arith
+-- what the memory holds is seen where it is lent to be read
+pub seen_holds : (v : LentView) {m : Memory} {head : PageCache} {c : Cache} → memory_seen v ≡ m → Holds m head c → Holds (memory_seen v) head c
+seen_holds v {head = head} {c = c} same H = subst (λ (x : Memory). Holds x head c) (sym same) H
 
 -- ── the page at the slot ─────────────────────────────────────────────────────
 module _ {m : Memory} {head : PageCache} {c : Cache} {key s : ℕ} {e : Entry} (H : Holds m head c) (at : StandsAt c.row key s e)
@@ -43,24 +41,23 @@ module _ {m : Memory} {head : PageCache} {c : Cache} {key s : ℕ} {e : Entry} (
   pub stored_is : seen s stored ≡ e
   stored_is = ap {B = Entry} (seen s) loaded ∙ sym (holds_standing H key at.found at.slot).entry_is
 
-  module _ {why : Deletable} (asked : why ≡ deletable stored.page) {list : List ℕ} where
-    pub page_goes : {place : ℕ} {m' : Memory} {head' : PageCache} → why ≡ Yes → Removes m head s m' head'
-        → Goes c e.page list place m' (set list place stored.handle.0) head'
-    page_goes {place} granted removes = record {
-      may = ap (λ (x : Entry). deletable x.page.state) (sym stored_is) ∙ sym asked ∙ granted;
-      holds = removes c key e H at;
-      listed = ap {B = List ℕ} (λ (x : Entry). set list place x.page.handle) stored_is;
-    }
+  pub page_goes : deletable stored.page ≡ Ok tt → {list : List ℕ} {place : ℕ} {m' : Memory} {head' : PageCache} → Removes m head s m' head'
+      → Goes c e.page list place m' (set list place stored.handle.0) head'
+  page_goes granted {list} {place} removes = record {
+    may = ap (λ (x : Entry). deletable x.page.state) (sym stored_is) ∙ granted;
+    holds = removes c key e H at;
+    listed = ap {B = List ℕ} (λ (x : Entry). set list place x.page.handle) stored_is;
+  }
 
-    pub page_stays : {a : Answer} → why ≢ Yes → a ≡ refused_as stored.key why → Stays e.page m list m list a
-    page_stays may_not because = record {
-      may_not = λ granted. may_not (asked ∙ ap (λ (x : Entry). deletable x.page.state) stored_is ∙ granted);
-      because =
-          because ∙ ap (refused_as stored.key) asked
-          ∙ ap {B = Answer} (λ (x : Entry). refused_as (record { 0 = x.page.key }) (deletable x.page.state)) stored_is;
-      kept = refl;
-      list_kept = refl;
-    }
+  pub page_stays : {why : Hindrance} → deletable stored.page ≡ Err why → {list : List ℕ} {a : Answer} → a ≡ refused_as stored.key (Err why)
+      → Stays e.page m list m list a
+  page_stays {why} refused because = record {
+    why = why;
+    hindered = ap (λ (x : Entry). deletable x.page.state) (sym stored_is) ∙ refused;
+    because = because ∙ ap {B = Answer} (λ (x : Entry). refused_as (record { 0 = x.page.key }) (Err why)) stored_is;
+    kept = refl;
+    list_kept = refl;
+  }
 
 -- a page that a key found can be deleted, if the list has a place for each page that is held
 pub can_delete : {m : Memory} {head : PageCache} {c : Cache} {key s : ℕ} {list : List ℕ} → Holds m head c → KeyAt c.row key s
@@ -84,8 +81,8 @@ module _ {c : Cache} {p : Page} {list : List ℕ} {m' : Memory} {list' : List �
   pub stays_comes : (follow : Cache → Outcome) {m : Memory} {head : PageCache} {a : Answer} → Holds m head c → Stays p m list m' list' a
       → MatchesOutcome (deleting p follow c) list m' list' (plainly a head)
   stays_comes follow {m} {head} H stays =
-      let why : Answer = refused_as (record { 0 = p.key }) (deletable p.state) in
-      comes_as (deleting_refused p follow c (deletable p.state) refl stays.may_not)
+      let why : Answer = refused_as (record { 0 = p.key }) (Err stays.why) in
+      comes_as (deleting_refused p follow c stays.why stays.hindered)
       (subst₃ (λ (x : Memory) (l : List ℕ) (a : Answer). MatchesOutcome (answer (code_of why) (value_of why) c) list x l (plainly a head)) (sym stays.kept) (sym stays.list_kept) (sym stays.because)
       (plain_comes why H list))
 

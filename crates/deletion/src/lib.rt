@@ -1,6 +1,7 @@
 // Deletion: rule 8 of document 01.
 //
-//     delete_page   at a slot, for every call that deletes: the page goes and is listed, or it stays and the answer says why
+//     delete_page   at a slot, for every call that deletes: the page goes and is listed, or it stays and the error is the answer that
+//                   says why
 //     delete_at     the same as the end of a call: `done` is answered, or why not
 //     delete        the call: the page under a key. An absent key is done
 //
@@ -12,4 +13,4 @@
 
 mod deletion;
 
-pub use deletion::{Deletion, delete, delete_at, delete_page};
+pub use deletion::{delete, delete_at, delete_page};

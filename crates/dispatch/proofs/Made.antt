@@ -1,5 +1,6 @@
 -- A creation is the model's `create`: on memory that holds a cache it comes to that step, as every other call does to its own, and
 -- on any memory it makes what the step makes of any cache with as many slots.
+use Rattle.std.specs.Prelude.{Ok, Err}
 use mathlib.Core.List.{[]}
 use mathlib.Core.Path.{◌≡◌, refl, sym, ap, ◌∙◌, subst}
 use Prim.Native.Nat.{ℕ, ◌≤◌, ◌<◌}
@@ -15,8 +16,7 @@ use Rattle.memory.specs.Holds.{Holds}
 use Rattle.soundness.proofs.Joining.{holds_agreeing}
 use Rattle.creating.specs.Creation.{CreatedWell, done, too_large, bad_lengths, Creates}
 use Rattle.creating.specs.Creation as creation
-use Rattle.creating.specs.declared.creating.Created.{Created}
-use Rattle.creating.specs.declared.creating.Created.TheVariants as created
+use Rattle.creating.specs.declared.creating.CreationError.TheVariants as creation_error
 use Rattle.answer.specs.Answer.{MatchesOutcome, code_of}
 use Rattle.answer.specs.declared.answer.Answer.TheVariants.{Done, TooLarge}
 use Rattle.answer.specs.declared.answered.Answered.{Answered}
@@ -40,10 +40,10 @@ module _ {capacity : ℕ} {before after : State} {head : PageCache} {r : Answere
   pub creation_code : code_of r.answer ≡ creation.code_of x.makes.made
   creation_code = ap (λ (s : Answered). code_of s.answer) x.makes.answer ∙ go x.makes.made
     where
-      go : (made : Created) → code_of (answered_as made head).answer ≡ creation.code_of made
-      go (created.Done new) = refl
-      go created.TooLarge = refl
-      go created.BadLengths = refl
+      go : (made : creation.Creation) → code_of (answered_as made head).answer ≡ creation.code_of made
+      go (Ok new) = refl
+      go (Err creation_error.TooLarge) = refl
+      go (Err creation_error.BadLengths) = refl
 
   -- on memory that holds a cache
   pub creation_comes : (c : Cache) → Holds before.memory head c
@@ -55,27 +55,27 @@ module _ {capacity : ℕ} {before after : State} {head : PageCache} {r : Answere
       size : c.size ≡ length before.memory.by_key
       size = sym h.lengths.by_key
 
-      go : (made : Created) → Creates before.memory capacity made after.memory
+      go : (made : creation.Creation) → Creates before.memory capacity made after.memory
           → MatchesOutcome (step (create capacity) c) before.list after.memory before.list (answered_as made head)
-      go (created.Done new) (done w) =
+      go (Ok new) (done w) =
           let holds : Holds after.memory new (fresh c.size capacity) =
           subst (λ (n : ℕ). Holds after.memory new (fresh n capacity)) (sym size) w.holds in
           comes_as (create_within capacity c (omega (arith, size, w.within))) (plain_comes (Done 0) holds before.list)
-      go created.TooLarge (too_large w) =
+      go (Err creation_error.TooLarge) (too_large w) =
           let holds : Holds after.memory head c = subst (λ (m : Memory). Holds m head c) (sym w.memory) h in
           comes_as (create_above capacity c (omega (arith, size, w.above))) (plain_comes TooLarge holds before.list)
-      go created.BadLengths (bad_lengths w) = absurd (w.lengths (holds_agreeing h))
+      go (Err creation_error.BadLengths) (bad_lengths w) = absurd (w.lengths (holds_agreeing h))
 
   -- done, on any memory: it is that of a new cache, whose head comes back
   made_well : code_of r.answer ≡ 0 → CreatedWell before.memory capacity r.head after.memory
   made_well told = go x.makes.made x.makes.creates x.makes.answer
     where
-      go : (made : Created) → Creates before.memory capacity made after.memory → r ≡ answered_as made head
+      go : (made : creation.Creation) → Creates before.memory capacity made after.memory → r ≡ answered_as made head
           → CreatedWell before.memory capacity r.head after.memory
-      go (created.Done new) (done w) q =
+      go (Ok new) (done w) q =
           subst (λ (h : PageCache). CreatedWell before.memory capacity h after.memory) (sym (ap (λ (s : Answered). s.head) q)) w
-      go created.TooLarge (too_large w) q = absurd (omega (arith, told, ap (λ (s : Answered). code_of s.answer) q))
-      go created.BadLengths (bad_lengths w) q = absurd (omega (arith, told, ap (λ (s : Answered). code_of s.answer) q))
+      go (Err creation_error.TooLarge) (too_large w) q = absurd (omega (arith, told, ap (λ (s : Answered). code_of s.answer) q))
+      go (Err creation_error.BadLengths) (bad_lengths w) q = absurd (omega (arith, told, ap (λ (s : Answered). code_of s.answer) q))
 
   -- what is made is what the model makes of any cache with as many slots
   pub creation_step : code_of r.answer ≡ 0 → (d : Cache) → d.size ≡ length before.memory.by_key

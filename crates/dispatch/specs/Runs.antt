@@ -1,13 +1,13 @@
 -- What a replay record comes to (01, "The replay program").
-use Rattle.std.specs.Prelude.{◌≡◌, ℕ, ◌≤◌, length}
+use Rattle.std.specs.Prelude.{◌≡◌, ℕ, ◌≤◌, length, Ok, Err}
 use Rattle.page.specs.declared.cache.PageCache.{PageCache}
 use Rattle.model.specs.Cache.{Cache}
 use Rattle.model.specs.Step.{step}
 use Rattle.memory.specs.Memory.{Memory}
 use Rattle.memory.specs.Holds.{Holds, Sound}
+use Rattle.creating.specs.Creation as creation_of
 use Rattle.creating.specs.Creation.{Creates}
-use Rattle.creating.specs.declared.creating.Created.{Created}
-use Rattle.creating.specs.declared.creating.Created.TheVariants as created
+use Rattle.creating.specs.declared.creating.CreationError.TheVariants as creation_error
 use Rattle.answer.specs.Answer.{MatchesOutcome, plainly}
 use Rattle.answer.specs.declared.answer.Answer.TheVariants.{Done, BadLengths, TooLarge, BadReplay}
 use Rattle.answer.specs.declared.answered.Answered.{Answered}
@@ -21,14 +21,14 @@ pub record Runnable (operation : ℕ) (m : Memory) (head : PageCache) : Type 0 w
 
 -- ── a creation ───────────────────────────────────────────────────────────────
 -- 01's answer: done, with the new cache's head; or refused, and the head stays
-abbrev pub answered_as : Created → PageCache → Answered
-answered_as (created.Done new) head = plainly (Done 0) new
-answered_as created.BadLengths head = plainly BadLengths head
-answered_as created.TooLarge head = plainly TooLarge head
+abbrev pub answered_as : creation_of.Creation → PageCache → Answered
+answered_as (Ok new) head = plainly (Done 0) new
+answered_as (Err creation_error.BadLengths) head = plainly BadLengths head
+answered_as (Err creation_error.TooLarge) head = plainly TooLarge head
 
 -- the memory is that of a new cache, or nothing is altered; and the answer says which
 pub record Makes (capacity : ℕ) (m : Memory) (head : PageCache) (m' : Memory) (r : Answered) : Type 0 where
-  pub made : Created
+  pub made : creation_of.Creation
   pub creates : Creates m capacity made m'
   pub answer : r ≡ answered_as made head
 

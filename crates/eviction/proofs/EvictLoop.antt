@@ -14,7 +14,6 @@ use Rattle.model.specs.Cache.{Cache}
 use Rattle.model.specs.Rooms.{Room, evict_to}
 use Rattle.memory.specs.Memory.{Memory}
 use Rattle.memory.specs.Holds.{Holds}
-use Rattle.memory.proofs.Lengths.{SameLengths, same_start, same_then}
 use Rattle.memory.proofs.OnceKept.{holds_held, holds_fits}
 use Rattle.eviction.specs.Evict.{Occupied, Takes, Refuses}
 use Rattle.eviction.specs.Room.{ReadyToEvict, Made}
@@ -26,7 +25,6 @@ use Rattle.eviction.proofs.Written.{Written, written_none, written_long, written
 pub record EvictLoop (m : Memory) (head : PageCache) (list : List ℕ) (from target : ℕ) (m' : Memory) (head' : PageCache) (list' : List ℕ)
     (passed count : ℕ) : Type 0 where
   pub ready : ReadyToEvict m head list from
-  pub same : SameLengths m m'
   -- the handles that went, and a place for each page that is left
   pub gone : List ℕ
   pub written : Written list from gone list' count
@@ -44,7 +42,6 @@ pub evict_loop_start : {m : Memory} {head : PageCache} {list : List ℕ} {from :
     → EvictLoop m head list from target m head list 0 from
 evict_loop_start target ready = record {
   ready = ready;
-  same = same_start;
   gone = [];
   written = written_none _ _;
   places = ready.places;
@@ -73,16 +70,14 @@ module _ {m : Memory} {head : PageCache} {list : List ℕ} {from target : ℕ} {
         handles = rw (← counted, ← r.gone) u.written.handles;
       }
 
-  pub evict_loop_done : head'.held ≤ target → (c : Cache) → Holds m head c
-      → Made (evict_to target c) list from m' list' (record { full = false; passed = passed; listed = count; head = head' })
-  evict_loop_done few c H = reached_made (toward_enough (u.toward c H) few)
+  -- `full` is as it was when the loop began
+  pub evict_loop_done : {is_full : Bool} → is_full ≡ false → head'.held ≤ target → (c : Cache) → Holds m head c
+      → Made (evict_to target c) list from m' list' (record { full = is_full; passed = passed; listed = count; head = head' })
+  evict_loop_done going few c H = rw going (reached_made (toward_enough (u.toward c H) few))
 
   module _ (more : target < head'.held) where
     pub evict_loop_occupied : Occupied m' head'
     evict_loop_occupied = record { sound = record { cache = _; holds = known.holds }; some_held = omega arith }
-
-    pub evict_loop_place : count < length list'
-    evict_loop_place = omega (arith, u.places, evict_loop_long)
 
     -- a page goes
     module _ {m'' : Memory} {handle : PageHandle} {n : ℕ} {head'' : PageCache} (took : (c : Cache) → Holds m' head' c → Takes c m'' handle n head'') where
@@ -97,10 +92,9 @@ module _ {m : Memory} {head : PageCache} {list : List ℕ} {from target : ℕ} {
       pub evict_loop_sum : passed + n ≤ suc ref_max * max_slots * max_slots
       evict_loop_sum = omega (arith, u.small, evict_loop_bound)
 
-      pub evict_loop_took : SameLengths m' m'' → EvictLoop m head list from target m'' head'' (set list' count handle.0) (passed + n) (count + 1)
-      evict_loop_took same = record {
+      pub evict_loop_took : EvictLoop m head list from target m'' head'' (set list' count handle.0) (passed + n) (count + 1)
+      evict_loop_took = record {
         ready = u.ready;
-        same = same_then u.same same;
         gone = u.gone ++ handle.0 ∷ [];
         written = written_more u.written handle.0 (omega (arith, u.places));
         places = omega (arith, u.places, evict_loop_held);

@@ -2,6 +2,7 @@
 use mathlib.Core.Path.{◌≡◌, refl, sym, ap, ◌∙◌, subst}
 use mathlib.Core.Option.{none, some}
 use Prim.Native.Nat.{ℕ, suc, ◌*◌, ◌<◌}
+use Rattle.std.specs.Prelude.{Result, Ok, Err}
 use Rattle.page.specs.Entry.{ref_max}
 use Rattle.page.specs.declared.cache.PageCache.{PageCache}
 use Rattle.page.specs.declared.names.PageHandle.{PageHandle}
@@ -16,17 +17,8 @@ use Rattle.memory.specs.Memory.{Memory}
 use Rattle.memory.specs.Holds.{Holds}
 use Rattle.memory.proofs.OnceKept.{holds_limited}
 use Rattle.eviction.specs.Evict.{Takes, Refuses, EvictionOf}
-use Rattle.eviction.specs.declared.evicting.Eviction.{Eviction}
-use Rattle.eviction.specs.declared.evicting.Eviction.TheVariants.{Took, Full}
-
--- ── once the answer is known ─────────────────────────────────────────────────
-pub says_took : (c : Cache) (m' : Memory) (head : PageCache) (r : Eviction) {gone : PageHandle} {count : ℕ} {head' : PageCache}
-    → r ≡ Took gone count head' → EvictionOf c m' head r → Takes c m' gone count head'
-says_took c m' head r = subst (EvictionOf c m' head)
-
-pub says_full : (c : Cache) (m' : Memory) (head : PageCache) (r : Eviction) {count : ℕ} → r ≡ Full count
-    → EvictionOf c m' head r → Refuses c m' count head
-says_full c m' head r = subst (EvictionOf c m' head)
+use Rattle.eviction.specs.declared.evicting.Evicted.{Evicted}
+use Rattle.eviction.specs.declared.evicting.Full.{Full}
 
 -- ── the model's sweep ────────────────────────────────────────────────────────
 -- the same in the model's words: the page that the sweep took, how many it passed, and the cache after it
@@ -44,9 +36,9 @@ pub record FullSweep (c : Cache) (m' : Memory) (count : ℕ) (head : PageCache) 
   pub unchanged : evicted c ≡ c
   pub holds : Holds m' head (evicted c)
 
-abbrev pub SweepEvicted : Cache → Memory → PageCache → Eviction → Type 0
-SweepEvicted c m' head (Took handle passed head') = TookSweep c m' handle passed head'
-SweepEvicted c m' head (Full passed) = FullSweep c m' passed head
+abbrev pub SweepEvicted : Cache → Memory → PageCache → Result Evicted Full → Type 0
+SweepEvicted c m' head (Ok r) = TookSweep c m' r.handle r.passed r.head
+SweepEvicted c m' head (Err r) = FullSweep c m' r.passed head
 
 module _ {m : Memory} {head : PageCache} {c : Cache} (H : Holds m head c) where
   pub took_is_the_sweep : {m' : Memory} {gone : PageHandle} {count : ℕ} {head' : PageCache} → Takes c m' gone count head'
@@ -73,9 +65,9 @@ module _ {m : Memory} {head : PageCache} {c : Cache} (H : Holds m head c) where
         holds = subst (Holds m' head) same t.holds;
       }
 
-  pub evicted_is_the_sweep : (m' : Memory) (r : Eviction) → EvictionOf c m' head r → SweepEvicted c m' head r
-  evicted_is_the_sweep m' (Took handle passed head') t = took_is_the_sweep t
-  evicted_is_the_sweep m' (Full passed) t = full_is_the_sweep t
+  pub evicted_is_the_sweep : (m' : Memory) (r : Result Evicted Full) → EvictionOf c m' head r → SweepEvicted c m' head r
+  evicted_is_the_sweep m' (Ok r) t = took_is_the_sweep t
+  evicted_is_the_sweep m' (Err r) t = full_is_the_sweep t
 
   -- fewer than 4n pages were passed
   pub took_passed_bound : {m' : Memory} {gone : PageHandle} {count : ℕ} {head' : PageCache} → Takes c m' gone count head'

@@ -3,7 +3,7 @@
 use mathlib.Core.Path.{◌≡◌, refl, sym, ap, ◌∙◌, subst}
 use mathlib.Core.Bool.{true, false}
 use mathlib.Core.List.{List, [], ◌∷◌, ◌++◌}
-use Prim.Native.Nat.{ℕ, suc, ◌+◌, ◌*◌, ◌-◌, ◌<◌, ◌≤◌}
+use Prim.Native.Nat.{ℕ, suc, ◌+◌, ◌*◌, ◌-◌, ◌<◌}
 use native.Mathlib.Omega.{arith}
 use lib.ListN.{length, length-append}
 use Rattle.page.specs.Entry.{ref_max}
@@ -21,8 +21,8 @@ use Rattle.model.specs.Sweep.{Swept, pass, lower, looks}
 use Rattle.model.proofs.Looks.{pass_none, loop_goes, loop_stays, loop_full}
 use Rattle.model.proofs.Lowering.{lower_le}
 use Rattle.memory.specs.Holds.{EntryGood, Seated, row_of}
-use Rattle.eviction.specs.Sweep.{seen_at, TakenAt, PassedAt, Sweepable, Turned, SweptFrom, SweptAs}
-use Rattle.eviction.proofs.Seats.{seated_turn, seat_inside, names_used, seated_used, row_passed}
+use Rattle.eviction.specs.Sweep.{seen_at, TakenAt, PassedAt, comes_to, Turned, SweptFrom, SweptAs}
+use Rattle.eviction.proofs.Seats.{seated_turn, names_used, seated_used, row_passed}
 
 -- a page that is passed stays good
 good_lower : (e : Entry) → EntryGood e → EntryGood (lower page_may_go 1 e)
@@ -85,36 +85,30 @@ module _ {es : List PageCacheEntry} {seats : List ℕ} {held : ℕ} {es' : List 
       }
 
   -- none is taken by all the looks
-  sweep_loop_full : suc ref_max * held ≤ passed → passed ≤ suc ref_max * held
-      → SweptFrom es seats held es' (record { found = false; at = record { 0 = at }; passed = passed })
-  sweep_loop_full ge le = record {
+  sweep_loop_full : passed ≡ suc ref_max * held
+      → SweptFrom es seats held es' (record { found = false; at = record { 0 = at }; passed = suc ref_max * held })
+  sweep_loop_full all = record {
     turned = m.turned;
-    came = sym (m.left 0 (omega arith)) ∙ loop_full page_may_go passed (row_of es' (at ∷ rest));
+    came = sym (m.left 0 (omega arith)) ∙ loop_full page_may_go passed (row_of es' (at ∷ rest)) ∙ ap {B = Swept} (comes_to false es' at rest) all;
   }
 
 -- ── the loop ─────────────────────────────────────────────────────────────────
--- there are as many words as before, at most 4 * held looks were made, and the ring is loop, whatever seats it had
+-- there are as many words as before, and the looks so far are these, whatever seats the ring had
 pub record Going (slots : List ℕ) (hand : Slot) (held : ℕ) (slots' : List ℕ) (at : Slot) (passed : ℕ) : Type 0 where
   pub long : length slots' ≡ length slots
-  pub within : passed ≤ suc ref_max * held
   pub loop : (rest : List ℕ) → Seated (entries slots) (hand.0 ∷ rest)
       → SweepLoop (entries slots) (hand.0 ∷ rest) held (entries slots') at.0 passed
 
 pub going_start : {slots : List ℕ} {hand : Slot} {held : ℕ} → Going slots hand held slots hand 0
-going_start = record { long = refl; within = omega arith; loop = λ rest g. sweep_loop_start _ g }
+going_start = record { long = refl; loop = λ rest g. sweep_loop_start _ g }
 
 module _ {slots : List ℕ} {hand : Slot} {held : ℕ} {slots' : List ℕ} {at : Slot} {passed : ℕ}
     (g : Going slots hand held slots' at passed) where
-  -- the slot to look at is there
-  pub going_inside : Sweepable (entries slots) hand.0 → at.0 < length (entries slots')
-  going_inside p = seat_inside (g.loop p.rest p.seated).turned.seated
-
   -- a look passes the page, or takes it, or none is left
-  pub going_passed : {slots'' : List ℕ} {next : Slot} → passed < suc ref_max * held → length slots'' ≡ length slots'
+  pub going_passed : {slots'' : List ℕ} {next : Slot} → length slots'' ≡ length slots'
       → PassedAt (entries slots') at.0 (entries slots'') next → Going slots hand held slots'' next (passed + 1)
-  going_passed more long p = record {
+  going_passed long p = record {
     long = long ∙ g.long;
-    within = omega arith;
     loop = λ rest s. sweep_loop_passed (g.loop rest s) p;
   }
 
@@ -122,6 +116,6 @@ module _ {slots : List ℕ} {hand : Slot} {held : ℕ} {slots' : List ℕ} {at :
       → SweptAs (entries slots) hand.0 held es'' (record { found = true; at = at; passed = passed })
   going_taken more t rest s = sweep_loop_taken (g.loop rest s) more t
 
-  pub going_full : suc ref_max * held ≤ passed
-      → SweptAs (entries slots) hand.0 held (entries slots') (record { found = false; at = at; passed = passed })
-  going_full all rest s = sweep_loop_full (g.loop rest s) all g.within
+  pub going_full : passed ≡ suc ref_max * held
+      → SweptAs (entries slots) hand.0 held (entries slots') (record { found = false; at = at; passed = suc ref_max * held })
+  going_full all rest s = sweep_loop_full (g.loop rest s) all

@@ -2,7 +2,7 @@
 -- counts alone, and the indexes and marks know nothing of those, nor of where the ring begins.
 use mathlib.Core.Path.{◌≡◌, refl, sym, ap, ◌∙◌, subst}
 use mathlib.Core.List.{List, [], ◌∷◌}
-use Prim.Native.Nat.{ℕ, suc, ◌*◌, ◌≤◌, ◌<◌}
+use Prim.Native.Nat.{ℕ, suc, ◌*◌, ◌≤◌}
 use native.Mathlib.Omega.{arith}
 use lib.ListN.{length}
 use Rattle.page.specs.Entry.{ref_max}
@@ -21,9 +21,8 @@ use Rattle.memory.specs.Memory.{Memory}
 use Rattle.memory.specs.Holds.{Seated, row_of, EntryGood, Holds}
 use Rattle.memory.proofs.Marks.{marked_seats}
 use Rattle.memory.proofs.OnceKept.{holds_held}
-use Rattle.eviction.specs.Sweep.{Sweepable, comes_to, SweptFrom, SweptAs}
+use Rattle.eviction.specs.Sweep.{comes_to, SweptFrom, SweptAs}
 use Rattle.eviction.specs.declared.sweeping.Swept as code
-use Rattle.eviction.proofs.Seats.{seat_inside}
 
 -- the memory with other slots
 abbrev pub with_slots : List ℕ → Memory → Memory
@@ -53,9 +52,6 @@ module _ {m : Memory} {head : PageCache} {c : Cache} (H : Holds m head c) (some_
   seated_from_hand : Seated (entries m.slots) (head.hand.0 ∷ others)
   seated_from_hand = subst (Seated (entries m.slots)) seats_are H.seated
 
-  pub sweepable : Sweepable (entries m.slots) head.hand.0
-  sweepable = record { rest = others; seated = seated_from_hand }
-
   pub row_from_hand : c.row ≡ row_of (entries m.slots) (head.hand.0 ∷ others)
   row_from_hand = H.row ∙ ap {B = Row} (row_of (entries m.slots)) seats_are
 
@@ -83,9 +79,6 @@ module _ {m : Memory} {head : PageCache} {c : Cache} (H : Holds m head c) {slots
   sweep_came =
       ap {B = Swept} (λ n. looks page_may_go (suc ref_max * n) c.row) (holds_held H)
       ∙ ap {B = Swept} (looks page_may_go (suc ref_max * head.held)) (row_from_hand H d.some_held) ∙ came_from.came
-
-  pub end_inside : r.at.0 < length es'
-  end_inside = seat_inside came_from.turned.seated
 
   same_seats : (k : ℕ) → has k (r.at.0 ∷ following) ≡ has k H.seats
   same_seats k = came_from.turned.same k ∙ ap (has k) (sym (seats_are H d.some_held))

@@ -1,13 +1,13 @@
 -- One eviction, in the words of demand 3.
-use Rattle.std.specs.Prelude.{ℕ, ◌≤◌}
+use Rattle.std.specs.Prelude.{ℕ, ◌≤◌, Result, Ok, Err}
 use Rattle.page.specs.declared.cache.PageCache.{PageCache}
 use Rattle.page.specs.declared.names.PageHandle.{PageHandle}
 use Rattle.model.specs.Cache.{Cache}
 use Rattle.model.specs.Evictions.{OneGoes, NoneGoes}
 use Rattle.memory.specs.Memory.{Memory}
 use Rattle.memory.specs.Holds.{Holds, Sound}
-use Rattle.eviction.specs.declared.evicting.Eviction.{Eviction}
-use Rattle.eviction.specs.declared.evicting.Eviction.TheVariants.{Took, Full}
+use Rattle.eviction.specs.declared.evicting.Evicted.{Evicted}
+use Rattle.eviction.specs.declared.evicting.Full.{Full}
 
 -- the memory is sound, and something is held
 pub record Occupied (m : Memory) (head : PageCache) : Type 0 where
@@ -26,6 +26,6 @@ pub record Refuses (c : Cache) (m' : Memory) (count : ℕ) (head : PageCache) : 
   pub holds : Holds m' head c
 
 -- what the answer to one eviction from the cache c says
-abbrev pub EvictionOf : Cache → Memory → PageCache → Eviction → Type 0
-EvictionOf c m' head (Took handle passed head') = Takes c m' handle passed head'
-EvictionOf c m' head (Full passed) = Refuses c m' passed head
+abbrev pub EvictionOf : Cache → Memory → PageCache → Result Evicted Full → Type 0
+EvictionOf c m' head (Ok r) = Takes c m' r.handle r.passed r.head
+EvictionOf c m' head (Err r) = Refuses c m' r.passed head

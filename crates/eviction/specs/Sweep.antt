@@ -1,5 +1,5 @@
 -- A look and a sweep over the entries of the slots (01, rule 3).
-use Rattle.std.specs.Prelude.{◌≡◌, Bool, true, false, List, ◌∷◌, ℕ, suc, ◌*◌, length, get_or, set}
+use Rattle.std.specs.Prelude.{◌≡◌, Bool, true, false, List, ◌∷◌, ℕ, suc, ◌*◌, length, get_or, set, Option, Some, None}
 use Rattle.std.proofs.Math.Option.{none, some}
 use Rattle.page.specs.Entry.{ref_max, with_uses}
 use Rattle.page.specs.declared.entry.PageCacheEntry.{PageCacheEntry}
@@ -13,8 +13,6 @@ use Rattle.model.specs.Cache.{page_may_go}
 use Rattle.model.specs.Row.{Entry, Each}
 use Rattle.model.specs.Sweep.{Swept, lower, goes_now, looks}
 use Rattle.memory.specs.Holds.{EntryGood, Seated, seen, row_of}
-use Rattle.eviction.specs.declared.sweeping.Look.{Look}
-use Rattle.eviction.specs.declared.sweeping.Look.TheVariants.{Takes, Passes}
 use Rattle.eviction.specs.declared.sweeping.Swept as code
 
 -- the model's entry for the one that stands at slot s
@@ -34,9 +32,9 @@ pub record PassedAt (es : List PageCacheEntry) (s : ℕ) (es' : List PageCacheEn
   pub next : answer.0 ≡ next_at es s
 
 -- what a look at slot s says
-abbrev pub LookedAt : List PageCacheEntry → ℕ → List PageCacheEntry → Look → Type 0
-LookedAt es s es' Takes = TakenAt es s es'
-LookedAt es s es' (Passes next) = PassedAt es s es' next
+abbrev pub LookedAt : List PageCacheEntry → ℕ → List PageCacheEntry → Option Slot → Type 0
+LookedAt es s es' None = TakenAt es s es'
+LookedAt es s es' (Some next) = PassedAt es s es' next
 
 -- ── a sweep ──────────────────────────────────────────────────────────────────
 -- the ring begins at the hand

@@ -27,6 +27,6 @@ mod evicting;
 mod making_room;
 mod sweeping;
 
-pub use evicting::{Eviction, evict_one};
+pub use evicting::{Evicted, Full, evict_one};
 pub use making_room::{Room, evict_to, make_room_for};
 pub use sweeping::{Swept, sweep};

@@ -1,16 +1,19 @@
 // Room is made by evictions, one after another.
 ghost use Rattle.model.specs.Cache.{Cache};
 ghost use Rattle.model.specs.Rooms.{evict_to, make_room};
-ghost use Rattle.memory.specs.Memory.{memory, memories};
+ghost use Rattle.memory.specs.Memory.{memory_in, SameSlices};
 ghost use Rattle.memory.specs.Holds.{Holds};
 ghost use Rattle.eviction.specs.Room.{ReadyToEvict, Made};
 
-use crate::evicting::{Eviction, evict_one};
+use crate::evicting::evict_one;
+use memory::LentMemory;
 use page::PageCache;
 
+// What evictions came to. `full` is a field, and not the error of a Result, since the others count in either case: if no page may go any
+// more, those that went before are gone all the same.
 #[derive(Clone, Copy)]
 pub struct Room {
-    // Whether there is no room, because no page may go or the capacity is 0. What went before is gone all the same.
+    // Whether there is no room, because no page may go or the capacity is 0.
     pub full: bool,
     // How many pages were passed, over all sweeps.
     pub passed: u64,
@@ -21,66 +24,53 @@ pub struct Room {
 }
 
 // Evicts while more than `target` pages are held. The list has `listed` handles already, and those of the pages that go
-// follow them.
+// follow them. `listed` stands beside the list, and not with it in a struct: the list is lent by the caller in C, and behind a `&mut` to
+// a struct each contract would have to say besides that the same list is in it.
 pub fn evict_to(
-    slots: &mut [u64],
-    by_key: &mut [u32],
-    by_handle: &mut [u32],
-    marks: &mut [u64],
+    memory: &mut LentMemory<'_>,
     list: &mut [u32],
     listed: usize,
     head: PageCache,
     target: u32,
 ) -> Room
-    requires { ReadyToEvict (memory slots by_key by_handle marks) head list.old listed }
-    ensures { let m = memories slots by_key by_handle marks in ((c : Cache) → Holds m.entry head c → Made (evict_to target c) list.old listed m.exit list.new result) }
+    requires { ReadyToEvict (memory_in memory.old) head list.old listed }
+    ensures same { SameSlices memory.old memory.new }
+    ensures outcome { (c : Cache) → Holds (memory_in memory.old) head c → Made (evict_to target c) list.old listed (memory_in memory.new) list.new result }
 {
-    let mut left = head;
-    let mut passed: u64 = 0;
-    let mut count = listed;
-    while target < left.held {
-        match evict_one(slots, by_key, by_handle, marks, left) {
-            Eviction::Full { passed: swept } => {
-                let sum = passed + swept;
-                return Room {
-                    full: true,
-                    passed: sum,
-                    listed: count,
-                    head: left,
-                };
+    let mut room = Room {
+        full: false,
+        passed: 0,
+        listed,
+        head,
+    };
+    while target < room.head.held {
+        match evict_one(memory, room.head) {
+            Ok(gone) => {
+                list[room.listed] = gone.handle.0;
+                room.listed += 1;
+                room.passed += gone.passed;
+                room.head = gone.head;
             }
-            Eviction::Took {
-                handle,
-                passed: swept,
-                head: next,
-            } => {
-                list[count] = handle.0;
-                count += 1;
-                passed += swept;
-                left = next;
+            Err(full) => {
+                room.full = true;
+                room.passed += full.passed;
+                return room;
             }
         }
     }
-    Room {
-        full: false,
-        passed,
-        listed: count,
-        head: left,
-    }
+    room
 }
 
-// Makes room for one page more. With capacity 0 there is no room to make, and no sweep is tried.
+// Makes room for one page more. With capacity 0 there is no room to make, and no sweep is tried. The list is lent as in `evict_to`.
 pub fn make_room_for(
-    slots: &mut [u64],
-    by_key: &mut [u32],
-    by_handle: &mut [u32],
-    marks: &mut [u64],
+    memory: &mut LentMemory<'_>,
     list: &mut [u32],
     listed: usize,
     head: PageCache,
 ) -> Room
-    requires { ReadyToEvict (memory slots by_key by_handle marks) head list.old listed }
-    ensures { let m = memories slots by_key by_handle marks in ((c : Cache) → Holds m.entry head c → Made (make_room c) list.old listed m.exit list.new result) }
+    requires { ReadyToEvict (memory_in memory.old) head list.old listed }
+    ensures same { SameSlices memory.old memory.new }
+    ensures outcome { (c : Cache) → Holds (memory_in memory.old) head c → Made (make_room c) list.old listed (memory_in memory.new) list.new result }
 {
     if head.capacity == 0 {
         return Room {
@@ -90,14 +80,5 @@ pub fn make_room_for(
             head,
         };
     }
-    evict_to(
-        slots,
-        by_key,
-        by_handle,
-        marks,
-        list,
-        listed,
-        head,
-        head.capacity - 1,
-    )
+    evict_to(memory, list, listed, head, head.capacity - 1)
 }

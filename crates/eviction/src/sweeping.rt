@@ -8,13 +8,8 @@ use page::{PageCache, Slot};
 // How often a sweep goes round. A page that may go has lost its last use after three rounds, and the fourth takes it.
 const ROUNDS: u64 = PageCache::REF_MAX as u64 + 1;
 
-// What comes of a look: the page is taken, or it is passed and the slot after it is next.
-#[derive(Clone, Copy)]
-enum Look {
-    Takes,
-    Passes(Slot),
-}
-
+// What a sweep says. The slot stands beside `found`, and not in an Option, since it counts in either case: the contract says where the
+// sweep ended also if nothing was found (`SweptAs`).
 #[derive(Clone, Copy)]
 pub struct Swept {
     // Whether there is a page to take.
@@ -25,21 +20,22 @@ pub struct Swept {
     pub passed: u64,
 }
 
-// Looks at the page in slot s. The slot is written only if the page loses a use.
-fn look_at(slots: &mut [u64], s: Slot) -> Look
+// Looks at the page in slot s. If it is passed, the answer is the slot to go on at; if it is taken, there is none. The slot is written
+// only if the page loses a use.
+fn look_at(slots: &mut [u64], s: Slot) -> Option<Slot>
     requires { s.0 < length (entries slots.old) }
     ensures { LookedAt (entries slots.old) s.0 (entries slots.new) result }
 {
     let e = pool::load(slots, s);
     let next = e.next;
     if !PageCache::evictable(e.key, e.page) {
-        return Look::Passes(next);
+        return Some(next);
     }
     if e.uses == 0 {
-        return Look::Takes;
+        return None;
     }
     pool::store(slots, s, e.decrement_ref());
-    Look::Passes(next)
+    Some(next)
 }
 
 // Sweeps a ring of `held` pages from the hand on. The page that it finds is not removed: that is the caller's to do.
@@ -49,9 +45,8 @@ pub fn sweep(slots: &mut [u64], hand: Slot, held: u32) -> Swept
 {
     let limit = ROUNDS * held as u64;
     let mut at = hand;
-    let mut passed: u64 = 0;
-    while passed < limit {
-        let Look::Passes(next) = look_at(slots, at) else {
+    for passed in 0..limit {
+        let Some(next) = look_at(slots, at) else {
             return Swept {
                 found: true,
                 at,
@@ -59,11 +54,10 @@ pub fn sweep(slots: &mut [u64], hand: Slot, held: u32) -> Swept
             };
         };
         at = next;
-        passed += 1;
     }
     Swept {
         found: false,
         at,
-        passed,
+        passed: limit,
     }
 }

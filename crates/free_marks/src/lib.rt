@@ -6,4 +6,4 @@
 
 mod marks;
 
-pub use marks::{count_free, is_free, lowest_free, mark_free, mark_held};
+pub use marks::{count_free, is_free, lowest_free, mark_free, mark_held, words_fit};

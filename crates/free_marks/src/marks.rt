@@ -1,6 +1,6 @@
-// The marks of free slots: 1 bits in 64-bit words, lowest slot in the lowest bit.
+// The marks of free slots: 1 bits in 64-bit words, lowest slot in the lowest bit. That a slot has its bit is a clause, as in crate pool.
 ghost use Rattle.std.specs.Prelude.{◌≡◌, ◌/◌, ◌<◌, ◌≤◌, length};
-ghost use Rattle.free_marks.specs.Marks.{bit_at, MarkedAs, max_words, SomeFree, LowestFree, free_slots};
+ghost use Rattle.free_marks.specs.Marks.{Wide, bit_at, MarkedAs, max_words, SomeFree, LowestFree, free_slots};
 ghost use Rattle.pool.specs.Decides.{Decides};
 
 use page::Slot;
@@ -13,6 +13,7 @@ pub fn is_free(marks: &[u64], s: Slot) -> bool
     (marks[w] >> (s.0 % 64)) % 2 == 1
 }
 
+// This and `mark_held` are each one operation on one word. One function for both would choose between them at each call.
 pub fn mark_free(marks: &mut [u64], s: Slot)
     requires { s.0 / 64 < length marks.old }
     ensures { MarkedAs 1 marks.old s.0 marks.new }
@@ -36,11 +37,13 @@ pub fn lowest_free(marks: &[u64]) -> Slot
     requires { SomeFree marks.now }
     ensures { LowestFree marks.now result.0 }
 {
-    let mut first = 0;
-    while marks[first] == 0 {
-        first += 1;
+    for (w, word) in marks.iter().enumerate() {
+        let all_held = *word == 0;
+        if !all_held {
+            return Slot(w as u32 * 64 + word.trailing_zeros());
+        }
     }
-    Slot(first as u32 * 64 + u64::trailing_zeros(marks[first]))
+    unreachable!()
 }
 
 // How many slots are free.
@@ -49,10 +52,15 @@ pub fn count_free(marks: &[u64]) -> u32
     ensures { result ≡ free_slots marks.now }
 {
     let mut free: u32 = 0;
-    let mut w = 0;
-    while w < marks.len() {
-        free += u64::count_ones(marks[w]);
-        w += 1;
+    for word in marks {
+        free += word.count_ones();
     }
     free
+}
+
+// Does nothing. It tells what the type of a slice says of each of its words, which is not known of one that stands in a struct.
+pub fn words_fit(words: &[u64])
+    ensures { Wide words.now }
+{
+    let _ = words;
 }

@@ -9,14 +9,14 @@
 ghost use Rattle.btree_format.specs.Rules.{Chain};
 ghost use Rattle.freeblocks.specs.Chained.{Linked};
 
-use btree_format::{Place, half_at};
+use btree_format::half_at;
 
 // The bytes of a block's link and size: no block is smaller.
 const LEAST_BLOCK: usize = 4;
 
 // The place of the first bad link or size of the chain that begins with the link at `link`. Its blocks have to lie from `least` on and
-// end by `end`, the usable end.
-pub fn first_bad(image: &[u8], end: usize, link: usize, least: usize) -> Place
+// end by `end`, the usable end. The walk follows the links, and has no count of them.
+pub fn first_bad(image: &[u8], end: usize, link: usize, least: usize) -> Option<usize>
     requires { Linked image.now end link }
     ensures { Chain image.now end link least result }
 {
@@ -25,20 +25,14 @@ pub fn first_bad(image: &[u8], end: usize, link: usize, least: usize) -> Place
     loop {
         let block = half_at(image, at);
         if block == 0 {
-            return Place::Nowhere;
+            return None;
         }
-        if block < free {
-            return Place::At(at);
-        }
-        if block > end - LEAST_BLOCK {
-            return Place::At(at);
+        if !(free..=end - LEAST_BLOCK).contains(&block) {
+            return Some(at);
         }
         let size = half_at(image, block + 2);
-        if size < LEAST_BLOCK {
-            return Place::At(block + 2);
-        }
-        if size > end - block {
-            return Place::At(block + 2);
+        if !(LEAST_BLOCK..=end - block).contains(&size) {
+            return Some(block + 2);
         }
         at = block;
         free = block + size;

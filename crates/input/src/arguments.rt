@@ -7,10 +7,7 @@ use std::env::{Env, FillError};
 pub fn word_count(env: &impl Env, most: usize) -> usize
     ensures { result ≤ most }
 {
-    for i in 0..most {
-        if let Err(FillError::NotPresent) = env.arg(i, &mut [0u8; 1]) {
-            return i;
-        }
-    }
-    most
+    (0..most)
+        .position(|i| matches!(env.arg(i, &mut [0u8; 1]), Err(FillError::NotPresent)))
+        .unwrap_or(most)
 }

@@ -1,11 +1,10 @@
-// A file that a program reads.
+// What a program is given: words, and a file that it reads.
 //
 //     arguments.rt  the words that a program is run with
-//     opening.rt    the file that an argument names
-//     reading.rt    a piece of it into memory
+//     opening.rt    the file that a word names
+//     reading.rt    a piece of a file into memory
 //
-// Callers may rely on this: if the file can't be opened the reason has been written to standard error, and a read that failed is
-// not taken for the input's end.
+// Callers may rely on this: a read that failed is not taken for the input's end.
 #![tactic(auto)]
 
 mod arguments;
@@ -13,5 +12,5 @@ mod opening;
 mod reading;
 
 pub use arguments::word_count;
-pub use opening::{File, open_argument};
-pub use reading::{Filled, fill};
+pub use opening::open_argument;
+pub use reading::fill;

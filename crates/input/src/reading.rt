@@ -1,52 +1,21 @@
 // A piece of a file into memory.
 ghost use Rattle.std.specs.Prelude.{◌≤◌, length};
 
-use std::io::{Error, Read};
+use std::io::{Read, Result};
 
-// What was read.
-#[derive(Clone, Copy)]
-pub struct Filled {
-    // The number of bytes, fewer than asked for if the input ends or a read fails.
-    pub count: usize,
-    // Why a read failed, if one did.
-    pub failed: Option<Error>,
-}
-
-// Reads the next bytes of the input, until there are `size`, to the start of the piece.
-pub fn fill(file: &mut impl Read, piece: &mut [u8], size: usize) -> Filled
-    requires { size ≤ length piece.old }
-    ensures { result.count ≤ size }
+// Reads the next bytes of the input to the start of the piece, until it is full, the input ends or a read fails. The number is how many
+// were read, before a read failed too.
+// Not `read_exact`, which doesn't tell how many, nor `read_to_end`, whose bytes are on the heap.
+pub fn fill(file: &mut impl Read, piece: &mut [u8]) -> (usize, Result<()>)
+    ensures { result.0 ≤ length piece.old }
 {
     let mut count = 0;
-    while count < size {
-        let some = read_some(file, &mut piece[count..size]);
-        // The input's end, or a read that failed.
-        if some.count == 0 {
-            return Filled {
-                count,
-                failed: some.failed,
-            };
+    while count < piece.len() {
+        match file.read(&mut piece[count..]) {
+            Ok(0) => return (count, Ok(())),
+            Ok(more) => count += more,
+            Err(reason) => return (count, Err(reason)),
         }
-        count += some.count;
     }
-    Filled {
-        count,
-        failed: None,
-    }
-}
-
-// One read.
-fn read_some(file: &mut impl Read, part: &mut [u8]) -> Filled
-    ensures { result.count ≤ length part.old }
-{
-    match file.read(part) {
-        Ok(count) => Filled {
-            count,
-            failed: None,
-        },
-        Err(reason) => Filled {
-            count: 0,
-            failed: Some(reason),
-        },
-    }
+    (count, Ok(()))
 }

@@ -124,15 +124,15 @@ module _ {m : Memory} {head : PageCache} {c : Cache} (H : Holds m head c) {list 
 
   -- the gaps. If no page went, the memory is what it was
   module _ (asked : NewPage) {gaps : Gaps} (k : CacheInvariant c) (wide : Wide m.marks) (wide' : Wide m'.marks)
-      (right : GapsOf m.slots m.by_key m.by_handle head.held asked.key.0 asked.handle.0 gaps) where
-    still_right : r.listed ≡ listed → GapsOf m'.slots m'.by_key m'.by_handle r.head.held asked.key.0 asked.handle.0 gaps
+      (right : GapsOf m head.held asked.key.0 asked.handle.0 gaps) where
+    still_right : r.listed ≡ listed → GapsOf m' r.head.held asked.key.0 asked.handle.0 gaps
     still_right q =
         let none_went : (make_room c).gone ≡ [] = empty (make_room c).gone (omega (arith, made.listed)) in
         let same = holds_memory wide wide' H (subst (Holds m' r.head) ((make_room_lem c k).still none_went) made.holds) in
-        subst (λ (x : Memory). GapsOf x.slots x.by_key x.by_handle r.head.held asked.key.0 asked.handle.0 gaps) same.0
-        (subst (λ (h : PageCache). GapsOf m.slots m.by_key m.by_handle h.held asked.key.0 asked.handle.0 gaps) same.1 right)
+        subst (λ (x : Memory). GapsOf x r.head.held asked.key.0 asked.handle.0 gaps) same.0
+        (subst (λ (h : PageCache). GapsOf m h.held asked.key.0 asked.handle.0 gaps) same.1 right)
 
-    pub room_known : KnownBefore m'.slots m'.by_key m'.by_handle r.head listed r.listed gaps asked
+    pub room_known : KnownBefore m' r.head listed r.listed gaps asked
     room_known = record {
       new = record { marks = m'.marks; cache = (make_room c).cache; holds = made.holds; new = still_new c k (gaps_new H right) };
       still = still_right;
@@ -147,7 +147,7 @@ module _ {m : Memory} {head : PageCache} {c : Cache} (H : Holds m head c) {list 
         λ i. made.full i && not (same i)
 
     pub room_placeable : {gaps : Gaps} {key handle : ℕ} {page : PageRecord} → CacheInvariant c
-        → GapsOf m'.slots m'.by_key m'.by_handle r.head.held key handle gaps → page.flags ≤ all_flags → r.full && not goes ≡ false
+        → GapsOf m' r.head.held key handle gaps → page.flags ≤ all_flags → r.full && not goes ≡ false
         → Placeable m' r.head gaps key handle page
     room_placeable k right flags q = record {
       cache = (make_room c).cache;

@@ -1,25 +1,24 @@
 -- By what stands under the key: nothing, and then the key is new; a page that is stale; or one that is loaded or locked.
-use mathlib.Core.Path.{◌≡◌, refl, sym, ap, ◌∙◌}
+use mathlib.Core.Path.{◌≡◌, refl, sym, ap, ◌∙◌, subst}
 use mathlib.Core.Bool.{Bool, true, false}
 use mathlib.Core.List.{List, []}
 use mathlib.Core.Option.{Option, none, some}
 use Prim.Native.Nat.{ℕ, ◌<◌}
-use native.Mathlib.Omega.{arith}
 use lib.Dec.{eqb}
 use lib.ListN.{length, get_or}
 use Rattle.page.specs.Record.{stale}
 use Rattle.page.specs.declared.cache.PageCache.{PageCache}
 use Rattle.page.specs.declared.entry.PageCacheEntry.{PageCacheEntry}
 use Rattle.pool.specs.Slots.{blank, entries}
-use Rattle.sorted_index.specs.declared.search.By.TheVariants.{Key}
+use Rattle.sorted_index.specs.declared.search.By.TheVariants.{Handle}
 use Rattle.model.specs.Cache.{Cache}
 use Rattle.model.specs.Call.{Outcome}
 use Rattle.model.specs.Row.{Page, Entry, find}
 use Rattle.model.specs.Rules.{deleting, present, insert_found, on_insert}
 use Rattle.model.proofs.KeptCases.{either}
-use Rattle.memory.specs.Memory.{Memory, memory_of}
+use Rattle.memory.specs.Memory.{Memory, memory_of, memory_seen}
+use Rattle.memory.specs.declared.lent.LentView.{LentView}
 use Rattle.memory.specs.Holds.{Holds}
-use Rattle.memory.proofs.OnceKept.{holds_held, holds_fits}
 use Rattle.answer.specs.declared.answered.Answered.{Answered}
 use Rattle.answer.proofs.Steps.{comes_as, wrote_none, unlisted_comes}
 use Rattle.moves.specs.Moves.{KeyAt, GapIn, Replaceable}
@@ -30,7 +29,7 @@ use Rattle.insertion.specs.declared.mode.NewPage.{NewPage}
 use Rattle.insertion.specs.declared.mode.InsertMode.{InsertMode}
 use Rattle.insertion.specs.declared.mode.InsertMode.TheVariants.{Plain, Forced, Upsert}
 use Rattle.insertion.specs.Mode.{insertion_of}
-use Rattle.insertion.specs.Admit.{admitting, Admissible, Admits}
+use Rattle.insertion.specs.Admit.{admitting, Admits}
 use Rattle.insertion.specs.Present.{Presents}
 use Rattle.insertion.specs.Renew.{KeyFound, InsertsStale}
 use Rattle.insertion.proofs.Names.{absent_new}
@@ -62,20 +61,14 @@ module _ (asked : NewPage) where
       go Forced = either (λ (o : Outcome). o.listed ≡ []) (eqb p.handle asked.handle.0) (λ _. refl) (λ _. refl)
       go Upsert = refl
 
+-- ── gaps ────────────────────────────────────────────────────────────────────
+-- one that was found where the memory is lent to be read
+module _ (v : LentView) {m : Memory} (same : memory_seen v ≡ m) {held name gap : ℕ} where
+  pub gap_by_handle : GapIn Handle v.slots.now v.by_handle.now held name gap → GapIn Handle m.slots m.by_handle held name gap
+  gap_by_handle = subst (λ (x : Memory). GapIn Handle x.slots x.by_handle held name gap) same
+
 -- ── the key is absent ────────────────────────────────────────────────────────
 module _ {m : Memory} {head : PageCache} {list : List ℕ} {asked : NewPage} where
-  pub absent_admissible : {at gap : ℕ} → Insertable m head list gap asked → GapIn Key m.slots m.by_key head.held asked.key.0 at
-      → Admissible m head list 0 (record { key = at; handle = gap }) asked
-  absent_admissible w absent = record {
-    cache = w.cache;
-    holds = w.holds;
-    kept = w.kept;
-    right = record { of_key = absent; of_handle = w.nowhere };
-    flags = w.flags;
-    places = omega (arith, w.long);
-    few = omega (arith, holds_held w.holds, holds_fits w.holds, w.holds.limits.most);
-  }
-
   module _ {m' : Memory} {list' : List ℕ} {r : Answered} where
     pub inserts_absent : ((c : Cache) → Holds m head c → find asked.key.0 c.row ≡ none) → Admits m head list 0 asked m' list' r
         → Inserts m head list asked m' list' r

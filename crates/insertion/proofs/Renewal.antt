@@ -1,13 +1,13 @@
 -- A stale page under the key. It goes and is listed, and the new page is admitted without it; or rule 8 refuses, and then
 -- nothing follows.
-use mathlib.Core.Path.{◌≡◌, refl, subst}
+use mathlib.Core.Path.{◌≡◌, refl}
 use mathlib.Core.List.{List, [], ◌∷◌}
 use Prim.Native.Nat.{ℕ, suc}
 use native.Mathlib.Omega.{arith}
 use lib.ListN.{length}
 use Rattle.page.specs.declared.cache.PageCache.{PageCache}
 use Rattle.model.specs.Cache.{Cache, held_in, leave}
-use Rattle.model.specs.Row.{Page, Entry}
+use Rattle.model.specs.Row.{Entry}
 use Rattle.model.proofs.ByKey.{find_stands, stands_own}
 use Rattle.model.proofs.KeptPages.{leave_kept, without_held}
 use Rattle.memory.specs.Memory.{Memory}
@@ -19,22 +19,12 @@ use Rattle.answer.specs.declared.answered.Answered.{Answered}
 use Rattle.answer.proofs.Steps.{comes_as, wrote_none, wrote_next, deleting_done}
 use Rattle.moves.specs.declared.finding.Gaps.{Gaps}
 use Rattle.moves.specs.Moves.{StandsAt, Unseated, GapsOf}
-use Rattle.deletion.specs.declared.deletion.Deletion.{Deletion}
-use Rattle.deletion.specs.declared.deletion.Deletion.TheVariants.{Deleted, Refused}
-use Rattle.deletion.specs.Deletion.{CanDelete, Goes, Stays, DeletionOf}
+use Rattle.deletion.specs.Deletion.{CanDelete, Goes, Stays}
 use Rattle.deletion.proofs.Deleting.{stays_comes}
 use Rattle.insertion.specs.declared.mode.NewPage.{NewPage}
 use Rattle.insertion.specs.Admit.{admitting, Admissible, Admits}
 use Rattle.insertion.specs.Renew.{KeyFound, InsertsStale}
 use Rattle.insertion.proofs.Names.{deleted_new}
-
--- what a deletion promises, once its answer is known
-module _ (c : Cache) (p : Page) (m : Memory) (list : List ℕ) (place : ℕ) (m' : Memory) (list' : List ℕ) (r : Deletion) where
-  pub says_goes : {head' : PageCache} → r ≡ Deleted head' → DeletionOf c p m list place m' list' r → Goes c p list place m' list' head'
-  says_goes = subst (DeletionOf c p m list place m' list')
-
-  pub says_stays : {why : Answer} → r ≡ Refused why → DeletionOf c p m list place m' list' r → Stays p m list m' list' why
-  says_stays = subst (DeletionOf c p m list place m' list')
 
 module _ {m : Memory} {head : PageCache} {list : List ℕ} {s : ℕ} {asked : NewPage} where
   abbrev less : (w : KeyFound m head list s asked) → suc (held_in (leave w.entry.page w.cache)) ≡ held_in w.cache
@@ -58,7 +48,7 @@ module _ {m : Memory} {head : PageCache} {list : List ℕ} {s : ℕ} {asked : Ne
   module _ {m' : Memory} {list' : List ℕ} {head' : PageCache}
       (goes : (c : Cache) (k : ℕ) (e : Entry) → Holds m head c → StandsAt c.row k s e → Goes c e.page list 0 m' list' head') where
     pub stale_unseated : KeyFound m head list s asked
-        → Unseated m'.slots m'.by_key m'.by_handle head' asked.key.0 asked.handle.0
+        → Unseated m' head' asked.key.0 asked.handle.0
     stale_unseated w = record {
       marks = m'.marks;
       cache = leave w.entry.page w.cache;
@@ -67,7 +57,7 @@ module _ {m : Memory} {head : PageCache} {list : List ℕ} {s : ℕ} {asked : Ne
     }
 
     pub stale_admissible : {gaps : Gaps} → KeyFound m head list s asked → length list' ≡ length list
-        → GapsOf m'.slots m'.by_key m'.by_handle head'.held asked.key.0 asked.handle.0 gaps
+        → GapsOf m' head'.held asked.key.0 asked.handle.0 gaps
         → Admissible m' head' list' 1 gaps asked
     stale_admissible w long right =
         let gone = goes w.cache asked.key.0 w.entry w.holds w.stands in

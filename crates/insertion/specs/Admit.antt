@@ -31,7 +31,7 @@ pub record Admissible (m : Memory) (head : PageCache) (list : List ℕ) (listed 
   pub cache : Cache
   pub holds : Holds m head cache
   pub kept : CacheInvariant cache
-  pub right : GapsOf m.slots m.by_key m.by_handle head.held asked.key.0 asked.handle.0 gaps
+  pub right : GapsOf m head.held asked.key.0 asked.handle.0 gaps
   pub flags : asked.page.flags ≤ all_flags
   pub places : listed + head.held ≤ length list
   pub few : listed + head.held ≤ max_slots
@@ -42,6 +42,6 @@ pub record Admits (m : Memory) (head : PageCache) (list : List ℕ) (listed : �
       → MatchesOutcome (listing gone (admitting asked c)) before m' list' r
 
 -- the key and the handle are new to the cache. If as many handles are listed as were before, the gaps of before are theirs
-pub record KnownBefore (slots by_key by_handle : List ℕ) (head : PageCache) (listed count : ℕ) (gaps : Gaps) (asked : NewPage) : Type 0 where
-  pub new : Unseated slots by_key by_handle head asked.key.0 asked.handle.0
-  pub still : count ≡ listed → GapsOf slots by_key by_handle head.held asked.key.0 asked.handle.0 gaps
+pub record KnownBefore (m : Memory) (head : PageCache) (listed count : ℕ) (gaps : Gaps) (asked : NewPage) : Type 0 where
+  pub new : Unseated m head asked.key.0 asked.handle.0
+  pub still : count ≡ listed → GapsOf m head.held asked.key.0 asked.handle.0 gaps

@@ -7,59 +7,46 @@
 // have a place for every page that is held. Callers may rely on `admit` being the model's rule: its answer, the pages passed, the
 // evicted handles, listed after those that stood in the list before, and the cache that the memory holds afterwards. Evictions stand on
 // Full. The indexes are searched again only if a page was evicted.
-ghost use Rattle.memory.specs.Memory.{memory, memories};
+ghost use Rattle.memory.specs.Memory.{memory_in, memory_seen, SameSlices};
 ghost use Rattle.moves.specs.Moves.{GapsOf};
 ghost use Rattle.insertion.specs.Admit.{Admissible, Admits, KnownBefore};
 
 use crate::mode::NewPage;
 use answer::{Answer, Answered};
+use memory::{LentMemory, LentView};
 use moves::Gaps;
 use page::PageCache;
 
-// The list has `listed` handles already, and those of the pages that are evicted follow them.
+// The list has `listed` handles already, and those of the pages that are evicted follow them. `listed` stands beside the list, and not with
+// it in a struct, as it does in crate eviction (`evict_to`).
 pub fn admit(
-    slots: &mut [u64],
-    by_key: &mut [u32],
-    by_handle: &mut [u32],
-    marks: &mut [u64],
+    memory: &mut LentMemory<'_>,
     list: &mut [u32],
     listed: usize,
     head: PageCache,
     gaps: Gaps,
     asked: NewPage,
 ) -> Answered
-    requires { Admissible (memory slots by_key by_handle marks) head list.old listed gaps asked }
-    ensures { let m = memories slots by_key by_handle marks in Admits m.entry head list.old listed asked m.exit list.new result }
+    requires { Admissible (memory_in memory.old) head list.old listed gaps asked }
+    ensures same { SameSlices memory.old memory.new }
+    ensures outcome { Admits (memory_in memory.old) head list.old listed asked (memory_in memory.new) list.new result }
 {
-    let room = eviction::make_room_for(slots, by_key, by_handle, marks, list, listed, head);
-    let left = room.head;
-    let passed = room.passed;
+    memory.words_fit();
+    let room = eviction::make_room_for(memory, list, listed, head);
+    memory.words_fit();
     let count = room.listed as u32;
-    let mode = asked.mode;
-    if room.full & !mode.goes_in(left.held, by_key.len()) {
+    if room.full & !asked.mode.goes_in(room.head.held, memory.by_key.len()) {
         return Answered {
-            answer: mode.turned_away(),
-            passed,
+            answer: asked.mode.turned_away(),
+            passed: room.passed,
             listed: count,
-            head: left,
+            head: room.head,
         };
     }
-    let right = gaps_now(
-        slots,
-        by_key,
-        by_handle,
-        left,
-        listed,
-        room.listed,
-        gaps,
-        asked,
-    );
+    let right = gaps_now(memory.view(), room.head, listed, room.listed, gaps, asked);
     let after = moves::place(
-        slots,
-        by_key,
-        by_handle,
-        marks,
-        left,
+        memory,
+        room.head,
         right,
         asked.key,
         asked.handle,
@@ -67,7 +54,7 @@ pub fn admit(
     );
     Answered {
         answer: Answer::Done(0),
-        passed,
+        passed: room.passed,
         listed: count,
         head: after,
     }
@@ -75,20 +62,18 @@ pub fn admit(
 
 // The gaps once room was made, when `count` handles are listed. If that is as many as before, no page went, and they are the same.
 fn gaps_now(
-    slots: &[u64],
-    by_key: &[u32],
-    by_handle: &[u32],
+    memory: LentView<'_>,
     head: PageCache,
     listed: usize,
     count: usize,
     gaps: Gaps,
     asked: NewPage,
 ) -> Gaps
-    requires { KnownBefore slots.now by_key.now by_handle.now head listed count gaps asked }
-    ensures { GapsOf slots.now by_key.now by_handle.now head.held asked.key.0 asked.handle.0 result }
+    requires { KnownBefore (memory_seen memory) head listed count gaps asked }
+    ensures { GapsOf (memory_seen memory.entry) head.held asked.key.0 asked.handle.0 result }
 {
     if count == listed {
         return gaps;
     }
-    moves::find_gaps(slots, by_key, by_handle, head, asked.key, asked.handle)
+    moves::find_gaps(memory, head, asked.key, asked.handle)
 }

@@ -7,15 +7,15 @@
 //     there, same handle   touched, KeyExists        the same                  touched and replaced in place
 //     there, another one   OtherPage                 the same                  touched and replaced in place
 //
-//     calls.rt     the three calls, with their tests
+//     calls.rt     insert_page: the call, with its tests
 //     by_key.rt    what stands under the key decides
 //     absent.rt    under an absent key (rules 5 and 7)
 //     stale.rt     under the key of a page that is neither loaded nor locked, which is deleted first (rule 6)
 //     present.rt   under the key of any other page (rule 6)
 //     mode.rt      what an insertion is asked for, and what its mode decides
 //
-// The three calls ask for sound memory and leave it sound. Callers may rely on each being the model's step: its answer, the
-// pages passed, the handles listed and the cache that the memory holds afterwards.
+// The three forms are one call, and the mode of the `NewPage` says which it is. It asks for sound memory and leaves it sound. Callers may
+// rely on its being the model's step: its answer, the pages passed, the handles listed and the cache that the memory holds afterwards.
 #![tactic(auto)]
 
 mod absent;
@@ -25,4 +25,5 @@ mod mode;
 mod present;
 mod stale;
 
-pub use calls::{force_insert_page, force_upsert_page, insert};
+pub use calls::insert_page;
+pub use mode::{InsertMode, NewPage};

@@ -27,13 +27,12 @@ pub fn present(
     ensures { Presents slots.old by_handle.old head s.0 asked slots.new by_handle.new result }
 {
     let old = pool::load(slots, s).handle;
-    let mode = asked.mode;
-    if mode.replaces() {
+    if asked.mode.replaces() {
         moves::touch_at(slots, s);
         let after = moves::replace_at(slots, by_handle, head, s, asked.handle, asked.page);
         return Answered::plain(Answer::Done(old.0), after);
     }
-    if old.0 != asked.handle.0 {
+    if old != asked.handle {
         return Answered::plain(Answer::OtherPage, head);
     }
     moves::touch_at(slots, s);

@@ -1,8 +1,8 @@
 -- Whether the memory is sound and the list long enough determines the verdict; and a listing of as many pages as the verdict says
 -- leaves the list as the answer says.
 use mathlib.Core.Path.{◌≡◌, refl, sym, ap, ◌∙◌}
-use mathlib.Core.List.{List, [], flat_map}
-use Prim.Native.Nat.{ℕ, ◌/◌, ◌≤◌, ◌<◌}
+use mathlib.Core.List.{List}
+use Prim.Native.Nat.{ℕ, ◌≤◌}
 use native.Mathlib.Omega.{arith}
 use lib.ListN.{length}
 use Rattle.page.specs.declared.cache.PageCache.{PageCache}
@@ -10,12 +10,11 @@ use Rattle.model.specs.Cache.{Cache}
 use Rattle.memory.specs.Memory.{Memory}
 use Rattle.memory.specs.Holds.{Holds}
 use Rattle.memory.proofs.OnceKept.{holds_held}
-use Rattle.listing.specs.declared.testing.Admission.{Admission}
-use Rattle.listing.specs.declared.testing.Listing.{Listing}
-use Rattle.listing.specs.declared.testing.Listing.TheVariants.{Done, NotSound, ShortList}
-use Rattle.listing.specs.declared.listed.ListedPage.{ListedPage}
-use Rattle.listing.specs.Listing.{Form, in_numbers, in_records, CanListRow, RowWritten, WritesRow}
-use Rattle.listing.specs.Outcome.{code_of, value_of, Verdict, all_listed, not_sound, too_short, Admits, ListingEffect}
+use Rattle.std.specs.Prelude.{Ok, Err}
+use Rattle.listing.specs.declared.testing.ListingError.{ListingError}
+use Rattle.listing.specs.declared.testing.ListingError.TheVariants.{NotSound, ShortList}
+use Rattle.listing.specs.Listing.{Form, Room, CanListRow, RowWritten, WritesRow}
+use Rattle.listing.specs.Outcome.{Listing, code_of, value_of, Verdict, all_listed, not_sound, too_short, Admits, ListingEffect}
 use Rattle.listing.proofs.Sweeping.{row_stands}
 
 -- ── a cache ──────────────────────────────────────────────────────────────────
@@ -29,67 +28,51 @@ module _ {A : Type 0} (F : Form A) {m : Memory} {head : PageCache} {c : Cache} (
   cache_listed lists = lists c.row (row_stands g) (holds_held g)
 
 -- ── from the verdict to the answer ───────────────────────────────────────────
--- the list has places for `space` pages and no more, and an empty row takes no place
-pub record Fits {A : Type 0} (F : Form A) (space : ℕ) (list : List A) : Type 0 where
-  pub empty : F.written [] ≡ []
-  pub none : F.places 0 ≡ 0
-  pub enough : (n : ℕ) → n ≤ space → F.places n ≤ length list
-  pub short : (n : ℕ) → space < n → length list < F.places n
+module _ {A : Type 0} {F : Form A} {m : Memory} {head : PageCache} {space : ℕ} {before : List A} (room : Room F before space) where
+  in_places : {code n : ℕ} → Verdict m head head.held space code n → Verdict m head (F.places head.held) (length before) code n
+  in_places (all_listed v) = all_listed (record { sound = v.sound; room = room.enough head.held v.room; count = v.count })
+  in_places (not_sound v) = not_sound v
+  in_places (too_short v) = too_short (record { sound = v.sound; short = room.short head.held v.short })
 
-pub numbers_fit : (list : List ℕ) → Fits in_numbers (length list / 8) list
-unfolding flat_map
-numbers_fit list = record { empty = refl; none = refl; enough = λ n le. omega arith; short = λ n lt. omega arith }
-
-pub records_fit : (list : List ListedPage) → Fits in_records (length list) list
-records_fit list = record { empty = refl; none = refl; enough = λ n le. le; short = λ n lt. lt }
-
-module _ {A : Type 0} {F : Form A} {m : Memory} {head : PageCache} {space : ℕ} {list : List A} {p : Admission} (fits : Fits F space list) (g : Admits m head space p) where
-  -- as many pages as the verdict says may be listed
-  pub admitted : CanListRow F m.slots head.hand.0 p.count list
-  admitted = by_verdict g.verdict g.count
+  -- a refusal is the call's answer
+  pub refuses : {why : ListingError} → Admits m head space (Err why) → ListingEffect F m head before before (Err why)
+  refuses {why} g = record { verdict = in_places g; refused = λ other. refl; done = λ is. absurd (refusal why is) }
     where
-      none_listable : p.count ≡ 0 → CanListRow F m.slots head.hand.0 p.count list
-      none_listable e = record { row = []; stands = tt; count = sym e; room = rw (e, fits.none) (omega arith) }
+      refusal : (e : ListingError) → code_of (Err e) ≡ 0 → ⊥
+      refusal NotSound is = omega (arith, is)
+      refusal ShortList is = omega (arith, is)
 
-      by_verdict : {code n : ℕ} → Verdict m head head.held space code n → p.count ≡ n → CanListRow F m.slots head.hand.0 p.count list
-      by_verdict (all_listed v) e = rw (e ∙ v.count) (cache_listable F v.sound.holds (fits.enough head.held v.room))
-      by_verdict (not_sound v) e = none_listable e
-      by_verdict (too_short v) e = none_listable e
+  module _ {held : ℕ} (g : Admits m head space (Ok held)) where
+    -- otherwise as many pages as it says may be listed
+    pub admitted : CanListRow F m.slots head.hand.0 held before
+    admitted = by_verdict refl g
+      where
+        by_verdict : {code n : ℕ} → code ≡ 0 → Verdict m head head.held space code n → CanListRow F m.slots head.hand.0 n before
+        by_verdict is (all_listed v) = rw v.count (cache_listable F v.sound.holds (room.enough head.held v.room))
+        by_verdict is (not_sound v) = absurd (omega (arith, is))
+        by_verdict is (too_short v) = absurd (omega (arith, is))
 
-  -- and then the call has come to its answer
-  pub comes : {after : List A} → WritesRow F m.slots head.hand.0 p.count list after → ListingEffect F m head list after p.answer
-  comes {after} lists = record { verdict = in_places g.verdict; refused = unaltered g.verdict g.count; done = filled g.verdict g.count }
-    where
-      in_places : {code n : ℕ} → Verdict m head head.held space code n → Verdict m head (F.places head.held) (length list) code n
-      in_places (all_listed v) = all_listed (record { sound = v.sound; room = fits.enough head.held v.room; count = v.count })
-      in_places (not_sound v) = not_sound v
-      in_places (too_short v) = too_short (record { sound = v.sound; short = fits.short head.held v.short })
-
-      none_listed : p.count ≡ 0 → after ≡ list
-      none_listed e = (lists [] tt (sym e)).list ∙ rw (fits.empty, fits.none)
-
-      unaltered : {code n : ℕ} → Verdict m head head.held space code n → p.count ≡ n → (code ≡ 0 → ⊥) → after ≡ list
-      unaltered (all_listed v) e other = absurd (other refl)
-      unaltered (not_sound v) e other = none_listed e
-      unaltered (too_short v) e other = none_listed e
-
-      filled : {code n : ℕ} → Verdict m head head.held space code n → p.count ≡ n → code ≡ 0 → (c : Cache) → Holds m head c → RowWritten F c.row list after
-      filled (all_listed v) e is c holds = cache_listed F holds (rw (e ∙ v.count) at lists)
-      filled (not_sound v) e is c holds = absurd (omega (arith, is))
-      filled (too_short v) e is c holds = absurd (omega (arith, is))
+    -- and then the call has come to its answer
+    pub comes : {after : List A} → WritesRow F m.slots head.hand.0 held before after → ListingEffect F m head before after (Ok held)
+    comes {after} lists = record { verdict = in_places g; refused = λ other. absurd (other refl); done = λ is c holds. filled refl g lists c holds }
+      where
+        filled : {code n : ℕ} → code ≡ 0 → Verdict m head head.held space code n → WritesRow F m.slots head.hand.0 n before after → (c : Cache) → Holds m head c → RowWritten F c.row before after
+        filled is (all_listed v) lists c holds = cache_listed F holds (rw v.count at lists)
+        filled is (not_sound v) lists c holds = absurd (omega (arith, is))
+        filled is (too_short v) lists c holds = absurd (omega (arith, is))
 
 -- ── one outcome ──────────────────────────────────────────────────────────────
 -- the number and the value determine the answer
 answer_told : (a b : Listing) → code_of a ≡ code_of b → value_of a ≡ value_of b → a ≡ b
-answer_told (Done n) (Done k) code value = ap Done value
-answer_told (Done n) NotSound code value = absurd (omega (arith, code))
-answer_told (Done n) ShortList code value = absurd (omega (arith, code))
-answer_told NotSound (Done n) code value = absurd (omega (arith, code))
-answer_told NotSound NotSound code value = refl
-answer_told NotSound ShortList code value = absurd (omega (arith, code))
-answer_told ShortList (Done n) code value = absurd (omega (arith, code))
-answer_told ShortList NotSound code value = absurd (omega (arith, code))
-answer_told ShortList ShortList code value = refl
+answer_told (Ok n) (Ok k) code value = ap Ok value
+answer_told (Ok n) (Err NotSound) code value = absurd (omega (arith, code))
+answer_told (Ok n) (Err ShortList) code value = absurd (omega (arith, code))
+answer_told (Err NotSound) (Ok n) code value = absurd (omega (arith, code))
+answer_told (Err NotSound) (Err NotSound) code value = refl
+answer_told (Err NotSound) (Err ShortList) code value = absurd (omega (arith, code))
+answer_told (Err ShortList) (Ok n) code value = absurd (omega (arith, code))
+answer_told (Err ShortList) (Err NotSound) code value = absurd (omega (arith, code))
+answer_told (Err ShortList) (Err ShortList) code value = refl
 
 module _ {m : Memory} {head : PageCache} {needed space : ℕ} where
   verdict_once : {code code' n n' : ℕ} → Verdict m head needed space code n → Verdict m head needed space code' n' → (code ≡ code') × (n ≡ n')

@@ -1,5 +1,5 @@
 -- The pool listing: the held pages in sweep order, each with its key, handle and use count (01, "The pool listing").
-use Rattle.std.specs.Prelude.{◌≡◌, ℕ, ◌*◌, ◌≤◌, ◌<◌, length, get_or, drop}
+use Rattle.std.specs.Prelude.{◌≡◌, ℕ, suc, ◌+◌, ◌*◌, ◌≤◌, ◌<◌, length, get_or, drop}
 use mathlib.Core.List.{List, [], ◌∷◌, ◌++◌, map, flat_map}
 use Rattle.page.specs.declared.entry.PageCacheEntry.{PageCacheEntry}
 use Rattle.ring_links.specs.Links.{next_at}
@@ -36,6 +36,19 @@ in_numbers = record { written = listed; places = λ n. 8 * n }
 
 abbrev pub in_records : Form ListedPage
 in_records = record { written = pages_of; places = λ n. n }
+
+module _ {A : Type 0} (F : Form A) where
+  -- the form shows pages one after another, `shown` for each, and each takes as many places as any other
+  pub record Laid (shown : ListedPage → List A) : Type 0 where
+    pub empty : F.written [] ≡ []
+    pub next : (e : Entry) (row : Row) → F.written (e ∷ row) ≡ shown (page_of e) ++ F.written row
+    pub none : F.places 0 ≡ 0
+    pub more : (n : ℕ) (p : ListedPage) → F.places (suc n) ≡ F.places n + length (shown p)
+
+  -- the list has places for n pages and no more
+  pub record Room (list : List A) (n : ℕ) : Type 0 where
+    pub enough : (k : ℕ) → k ≤ n → F.places k ≤ length list
+    pub short : (k : ℕ) → n < k → length list < F.places k
 
 -- ── where it stands ──────────────────────────────────────────────────────────
 -- the page at slot s, and the slot after it

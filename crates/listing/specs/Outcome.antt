@@ -1,25 +1,27 @@
 -- What comes of a listing of any memory (01, "Answer codes" 0, 1 and 3).
-use Rattle.std.specs.Prelude.{◌≡◌, List, ℕ, ◌≤◌, ◌<◌, length}
+use Rattle.std.specs.Prelude.{◌≡◌, List, ℕ, ◌≤◌, ◌<◌, length, Result, Ok, Err}
 use Rattle.page.specs.declared.cache.PageCache.{PageCache}
 use Rattle.model.specs.Cache.{Cache}
 use Rattle.memory.specs.Memory.{Memory}
 use Rattle.memory.specs.Holds.{Holds, Sound}
-use Rattle.listing.specs.declared.testing.Admission.{Admission}
-use Rattle.listing.specs.declared.testing.Listing.{Listing}
-use Rattle.listing.specs.declared.testing.Listing.TheVariants.{Done, NotSound, ShortList}
+use Rattle.listing.specs.declared.testing.ListingError.{ListingError}
+use Rattle.listing.specs.declared.testing.ListingError.TheVariants.{NotSound, ShortList}
 use Rattle.listing.specs.Listing.{Form, RowWritten}
+
+-- the number of pages listed, or why none is
+abbrev pub Listing : Type 0
+Listing = Result ℕ ListingError
 
 -- 01's answer codes
 abbrev pub code_of : Listing → ℕ
-code_of (Done n) = 0
-code_of NotSound = 1
-code_of ShortList = 3
+code_of (Ok n) = 0
+code_of (Err NotSound) = 1
+code_of (Err ShortList) = 3
 
 -- and its values: the number of pages listed, else 0
 abbrev pub value_of : Listing → ℕ
-value_of (Done n) = n
-value_of NotSound = 0
-value_of ShortList = 0
+value_of (Ok n) = n
+value_of (Err why) = 0
 
 -- 3: the memory is sound, and the list has less space than is needed
 pub record TooShort (m : Memory) (head : PageCache) (needed space : ℕ) : Type 0 where
@@ -38,10 +40,9 @@ pub data Verdict (m : Memory) (head : PageCache) (needed space : ℕ) : (code va
   not_sound : (Sound m head → ⊥) → Verdict m head needed space 1 0
   too_short : TooShort m head needed space → Verdict m head needed space 3 0
 
--- the answer for a list with space for `space` pages, and the number of pages to list, which is the answer's value
-pub record Admits (m : Memory) (head : PageCache) (space : ℕ) (a : Admission) : Type 0 where
-  pub verdict : Verdict m head head.held space (code_of a.answer) (value_of a.answer)
-  pub count : a.count ≡ value_of a.answer
+-- the answer for a list with space for `space` pages
+abbrev pub Admits : Memory → PageCache → (space : ℕ) → Listing → Type 0
+Admits m head space answer = Verdict m head head.held space (code_of answer) (value_of answer)
 
 -- what came of a call: the list was `before` and is `after`. The memory is lent to be read, and stays as it is
 pub record ListingEffect {A : Type 0} (F : Form A) (m : Memory) (head : PageCache) (before after : List A) (answer : Listing) : Type 0 where

@@ -6,23 +6,22 @@
 //     in records   a ListedPage for each page
 //
 //     listed.rt      ListedPage; page_at: what stands at a slot, fetched by value
+//     form.rt        PageForm, the trait of u64 and of ListedPage: how a page is written to a list of such elements
 //     testing.rt     the tests that come first: sound memory, then a list that is long enough
-//     numbers.rt     list_pool, list_numbers
-//     records.rt     list_records, list_pages
+//     pages.rt       list_ring, list_pages, for a list in either form
 //
-// `list_numbers` and `list_pages` take any memory: they list all held pages, or refuse with document 01's answer 1 or 3 and
-// alter nothing. `list_pool` and `list_records` are the same without the tests, for callers who know their memory and
-// their list. No function here changes the memory, and places of the list past the pages keep their values. What is said of
-// the two forms is said once, of a `Form` (specs/Listing.antt). The contracts of `list_numbers` and `list_pages` are
-// deterministic (proofs/Outcomes.antt).
+// `list_pages` takes any memory: it lists all held pages, or refuses with document 01's answer 1 or 3 and alters nothing.
+// `list_ring` is the same without the tests, for callers who know their memory and their list. No function here changes the
+// memory, and places of the list past the pages keep their values. What is said of the two forms is said once, of a `Form`
+// (specs/Listing.antt). The contract of `list_pages` is deterministic (proofs/Outcomes.antt).
 #![tactic(auto)]
 
+mod form;
 mod listed;
-mod numbers;
-mod records;
+mod pages;
 mod testing;
 
+pub use form::PageForm;
 pub use listed::ListedPage;
-pub use numbers::{list_numbers, list_pool};
-pub use records::{list_pages, list_records};
-pub use testing::Listing;
+pub use pages::{list_pages, list_ring};
+pub use testing::ListingError;

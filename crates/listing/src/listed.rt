@@ -29,15 +29,13 @@ pub fn page_at(slots: &[u64], s: Slot) -> RingPage
     ensures { result ≡ ring_page_at (entries slots.now) s.0 }
 {
     let e = load(slots, s);
-    let key = e.key;
-    let handle = e.handle;
-    let record = e.page;
-    let next = e.next;
-    let page = ListedPage {
-        key,
-        handle,
-        page: record,
-        uses: e.uses,
-    };
-    RingPage { page, next }
+    RingPage {
+        page: ListedPage {
+            key: e.key,
+            handle: e.handle,
+            page: e.page,
+            uses: e.uses,
+        },
+        next: e.next,
+    }
 }

@@ -1,16 +1,15 @@
 -- Rule 9: a call that passes its tests does what the rule says of the entry that the search found, or of none.
+use Rattle.std.specs.Prelude.{Some, None}
 use mathlib.Core.Path.{◌≡◌, refl, sym, ap, ◌∙◌, subst}
 use mathlib.Core.Bool.{Bool, true, false}
 use mathlib.Core.List.{List}
 use mathlib.Core.Option.{Option, none, some}
 use Prim.Native.Nat.{ℕ, ◌≤◌, ◌<◌}
 use lib.ListN.{length, get_or}
-use Rattle.page.specs.Record.{all_flags, stale, with_holders, one_holder_more, one_holder_less}
+use Rattle.page.specs.Record.{Holders, all_flags, stale, with_holders, one_holder_more, one_holder_less}
 use Rattle.page.specs.declared.cache.PageCache.{PageCache}
 use Rattle.page.specs.declared.entry.PageCacheEntry.{PageCacheEntry}
 use Rattle.page.specs.declared.record.PageRecord.{PageRecord}
-use Rattle.page.specs.declared.record.Recount.{Recount}
-use Rattle.page.specs.declared.record.Recount.TheVariants.{Now, AtLimit}
 use Rattle.pool.specs.Slots.{blank, entries}
 use Rattle.model.specs.Cache.{Cache, touch, rewrite}
 use Rattle.model.specs.Call.{Outcome, lookup, peek, release, answer}
@@ -67,16 +66,16 @@ module _ {m : Memory} {head : PageCache} {c : Cache} {key s : ℕ} {e : Entry} (
   recount_good written =
       rw written (subst (λ (x : Entry). x.page.state.flags ≤ all_flags) (sym (stored_is H at loaded)) (found_good H key at.found at.slot).flags)
 
-  module _ (asked : Bool) {r : Recount} (counted : r ≡ one_holder_more stored.page) where
+  module _ (asked : Bool) {r : Holders} (counted : r ≡ one_holder_more stored.page) where
     hit_comes : {m' : Memory} {a : Answered} → Follows (hit_with key r asked (seen s stored).page c) m' a → Follows (hit key asked e.page c) m' a
     hit_comes {m'} {a} f =
         subst (λ (x : Entry). Follows (hit key asked x.page c) m' a) (stored_is H at loaded)
-        (subst (λ (x : Recount). Follows (hit_with key x asked (seen s stored).page c) m' a) counted f)
+        (subst (λ (x : Holders). Follows (hit_with key x asked (seen s stored).page c) m' a) counted f)
 
-    pub hit_limit : r ≡ AtLimit → Follows (hit key asked e.page c) m (plainly HolderLimit head)
+    pub hit_limit : r ≡ None → Follows (hit key asked e.page c) m (plainly HolderLimit head)
     hit_limit is = hit_comes (rw is (plain_follows HolderLimit H))
 
-    module _ {holders : ℕ} (is : r ≡ Now holders) {state : PageRecord} (written : state ≡ with_holders stored.page holders) {m' : Memory} where
+    module _ {holders : ℕ} (is : r ≡ Some holders) {state : PageRecord} (written : state ≡ with_holders stored.page holders) {m' : Memory} where
       pub hit_seen : asked ≡ false → Holds m' head (rewrite key state c) → Follows (hit key asked e.page c) m' (plainly (Done stored.handle.0) head)
       hit_seen unasked held = hit_comes (rw (is, unasked, sym written) (plain_follows (Done stored.handle.0) held))
 
@@ -85,17 +84,17 @@ module _ {m : Memory} {head : PageCache} {c : Cache} {key s : ℕ} {e : Entry} (
       hit_touched told held = hit_comes (rw (is, told, sym written) (touching_follows (plain_follows (Done stored.handle.0) held)))
 
   -- ── release ────────────────────────────────────────────────────────────────
-  module _ {r : Recount} (counted : r ≡ one_holder_less stored.page) where
+  module _ {r : Holders} (counted : r ≡ one_holder_less stored.page) where
     release_comes : {m' : Memory} {a : Answered} → Follows (release_with key r (seen s stored).page c) m' a → Follows (step (release key) c) m' a
     release_comes {m'} {a} f =
         follows_as (release_found_lem key c at.found)
         (subst (λ (x : Entry). Follows (release_found key (some x) c) m' a) (stored_is H at loaded)
-        (subst (λ (x : Recount). Follows (release_with key x (seen s stored).page c) m' a) counted f))
+        (subst (λ (x : Holders). Follows (release_with key x (seen s stored).page c) m' a) counted f))
 
-    pub release_limit : r ≡ AtLimit → Follows (step (release key) c) m (plainly HolderLimit head)
+    pub release_limit : r ≡ None → Follows (step (release key) c) m (plainly HolderLimit head)
     release_limit is = release_comes (rw is (plain_follows HolderLimit H))
 
-    pub release_done : {holders : ℕ} {state : PageRecord} {m' : Memory} → r ≡ Now holders → state ≡ with_holders stored.page holders
+    pub release_done : {holders : ℕ} {state : PageRecord} {m' : Memory} → r ≡ Some holders → state ≡ with_holders stored.page holders
         → Holds m' head (rewrite key state c) → Follows (step (release key) c) m' (plainly (Done 0) head)
     release_done is written left = release_comes (rw (is, sym written) (plain_follows (Done 0) left))
 

@@ -5,10 +5,10 @@
 //                    peek           the page under a key as it stands, touched only if asked
 //     releasing.rt   release_page   one holder of the page under a key less
 //
-// `get` asks for sound memory (crate memory) and tests the list itself, before the rule; the others ask for the two parts that
-// they are lent (specs/Parts.antt of crate answer). Callers may rely on this: for every cache that the memory holds at entry, a call
-// comes to the outcome of the model's `step` for it. The answer, the listed handle and the memory at exit are those of that outcome; so a
-// call that a test refuses has changed nothing.
+// `get` asks for sound memory (crate memory) and tests the list itself, before the rule; the others ask for the two parts that they are
+// lent (specs/Parts.antt of crate answer): they take no `LentMemory`, since what is not lent is not changed. Callers may rely on this:
+// for every cache that the memory holds at entry, a call comes to the outcome of the model's `step` for it. The answer, the listed
+// handle and the memory at exit are those of that outcome; so a call that a test refuses has changed nothing.
 #![tactic(auto)]
 
 mod lookup;

@@ -3,7 +3,7 @@ ghost use Rattle.std.specs.Prelude.{length};
 ghost use Rattle.model.specs.Cache.{Cache};
 ghost use Rattle.model.specs.Call.{lookup, peek};
 ghost use Rattle.model.specs.Step.{step};
-ghost use Rattle.memory.specs.Memory.{memory, memories};
+ghost use Rattle.memory.specs.Memory.{memory_in, SameSlices};
 ghost use Rattle.memory.specs.Holds.{Holds, Sound};
 ghost use Rattle.answer.specs.Answer.{MatchesOutcome};
 ghost use Rattle.answer.specs.Parts.{SoundParts, FollowsStep};
@@ -11,46 +11,38 @@ ghost use Rattle.lookups.specs.Hit.{CanHit, Hits};
 
 use answer::{Answer, Answered};
 use deletion::delete_at;
-use moves::Seat;
-use page::{PageCache, PageCacheEntry, PageCacheKey, Recount, Slot};
+use memory::LentMemory;
+use page::{PageCache, PageCacheEntry, PageCacheKey, Slot};
 
 // The handle of the page under the key, which is touched and has one holder more. A read that was given up leaves a page neither
 // loaded nor locked: such a page is deleted, whoever holds it, and counts as absent, so that no caller is handed it.
 pub fn get(
-    slots: &mut [u64],
-    by_key: &mut [u32],
-    by_handle: &mut [u32],
-    marks: &mut [u64],
+    memory: &mut LentMemory<'_>,
     list: &mut [u32],
     head: PageCache,
     key: PageCacheKey,
 ) -> Answered
-    requires { Sound (memory slots by_key by_handle marks) head }
-    ensures { let m = memories slots by_key by_handle marks in ((c : Cache) → Holds m.entry head c → MatchesOutcome (step (lookup key.0 (length list.old)) c) list.old m.exit list.new result) }
+    requires { Sound (memory_in memory.old) head }
+    ensures same { SameSlices memory.old memory.new }
+    ensures outcome { (c : Cache) → Holds (memory_in memory.old) head c → MatchesOutcome (step (lookup key.0 (length list.old)) c) list.old (memory_in memory.new) list.new result }
 {
     if list.len() < head.held as usize {
         return Answered::plain(Answer::ShortList, head);
     }
-    let Seat::At(s) = moves::seat_of(by_key, slots, head.held, key) else {
+    let seen = memory.view();
+    let Ok(s) = moves::seat_of(seen.by_key, seen.slots, head.held, key) else {
         return Answered::plain(Answer::Absent, head);
     };
+    let slots = &mut *memory.slots;
     let e = pool::load(slots, s);
     if e.page.is_stale() {
-        return delete_at(
-            slots,
-            by_key,
-            by_handle,
-            marks,
-            list,
-            head,
-            s,
-            Answer::Absent,
-        );
+        return delete_at(memory, list, head, s, Answer::Absent);
     }
     hit(slots, head, s, e, true)
 }
 
-// The handle of the page under the key, whatever its flags, which has one holder more and is touched if asked.
+// The handle of the page under the key, whatever its flags, which has one holder more and is touched if asked: that is 01's option, in the
+// definition too, and so a value and no closure.
 pub fn peek(
     slots: &mut [u64],
     by_key: &[u32],
@@ -61,7 +53,7 @@ pub fn peek(
     requires { SoundParts slots.old by_key.now head }
     ensures { FollowsStep (peek key.0 touch) slots.old by_key.now head slots.new result }
 {
-    let Seat::At(at) = moves::seat_of(by_key, slots, head.held, key) else {
+    let Ok(at) = moves::seat_of(by_key, slots, head.held, key) else {
         return Answered::plain(Answer::Absent, head);
     };
     let e = pool::load(slots, at);
@@ -74,7 +66,7 @@ fn hit(slots: &mut [u64], head: PageCache, s: Slot, e: PageCacheEntry, touch: bo
     requires { CanHit slots.old head s.0 e }
     ensures { Hits slots.old head s.0 touch slots.new result }
 {
-    let Recount::Now(holders) = e.page.one_holder_more() else {
+    let Some(holders) = e.page.one_holder_more() else {
         return Answered::plain(Answer::HolderLimit, head);
     };
     moves::rewrite_at(slots, s, e.page.with_holders(holders));

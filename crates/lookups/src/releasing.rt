@@ -3,8 +3,7 @@ ghost use Rattle.model.specs.Call.{release};
 ghost use Rattle.answer.specs.Parts.{SoundParts, FollowsStep};
 
 use answer::{Answer, Answered};
-use moves::Seat;
-use page::{PageCache, PageCacheKey, Recount};
+use page::{PageCache, PageCacheKey};
 
 // The page under the key has one holder less, whatever else its record says. It is the page that stands there now, which may be another
 // one than was looked up.
@@ -17,11 +16,11 @@ pub fn release_page(
     requires { SoundParts slots.old by_key.now head }
     ensures { FollowsStep (release key.0) slots.old by_key.now head slots.new result }
 {
-    let Seat::At(s) = moves::seat_of(by_key, slots, head.held, key) else {
+    let Ok(s) = moves::seat_of(by_key, slots, head.held, key) else {
         return Answered::plain(Answer::Absent, head);
     };
     let e = pool::load(slots, s);
-    let Recount::Now(holders) = e.page.one_holder_less() else {
+    let Some(holders) = e.page.one_holder_less() else {
         return Answered::plain(Answer::HolderLimit, head);
     };
     moves::rewrite_at(slots, s, e.page.with_holders(holders));

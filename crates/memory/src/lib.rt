@@ -1,4 +1,4 @@
-// What the lent memory means. A crate of definitions and laws, and no code.
+// The lent memory, and what it means.
 //
 // A cache of S slots lives in four slices that the caller lends, and in a head that goes in by value and comes back:
 //
@@ -26,10 +26,14 @@
 //     the packing            pool alone knows it; the others load and store whole entries
 //     next, prev             ring_links
 //     a slot's other fields  moves; and a sweep of crate eviction lowers use counts
-//     by_key, by_handle      order, which moves calls
+//     by_key, by_handle      sorted_index, which moves calls
 //     marks                  free_marks, which moves calls
 //     head                   each call hands back the head after it, and the caller keeps it for the next call
 //     all of it              creating, and clearing by creating again
+//
+// `LentMemory` is the four slices as one value, and `LentView` the same where they are only read (lent.rt). The head stands beside them,
+// by value, as document 01 has it: so that the memory is sound, which speaks of both, is asked by a clause and not by a type. Pages are
+// slots, named by number, and an index is a list of slots: all is lent and of a fixed size, and nothing is allocated.
 //
 // The caller may read all of it between calls, and should write none: a public call tests it first, and answers 1 if it is not sound
 // (crate soundness).
@@ -42,3 +46,7 @@
 //     specs/Holds.antt     what it means that memory holds a cache
 //     specs/Walk.antt      a walk over the keys, by the index
 #![tactic(auto)]
+
+mod lent;
+
+pub use lent::{LentMemory, LentView};

@@ -1,5 +1,6 @@
 -- An outcome counts the touch that a call does to a page and the uses that its evictions take away, and no others. Rule by rule, for
 -- every call; a run adds them up.
+use Rattle.std.specs.Prelude.{Ok, Err, Result, Some, None}
 use mathlib.Core.Bool.{Bool, true, false}
 use mathlib.Core.List.{List, [], ◌∷◌, ◌++◌, append-nil}
 use mathlib.Core.Option.{Option, none, some}
@@ -10,12 +11,10 @@ use lib.Dec.{eqb, ltb}
 use lib.ListN.{length}
 use Rattle.page.specs.Cache.{page_one}
 use Rattle.page.specs.Entry.{raised}
-use Rattle.page.specs.Record.{dirty, stale, deletable, with_holders, one_holder_more, one_holder_less}
-use Rattle.page.specs.declared.record.Deletable.{Deletable}
-use Rattle.page.specs.declared.record.Deletable.TheVariants.{Yes, Locked, Dirty, Pinned}
+use Rattle.page.specs.Record.{Holders, dirty, stale, deletable, with_holders, one_holder_more, one_holder_less}
+use Rattle.page.specs.declared.record.Hindrance.{Hindrance}
+use Rattle.page.specs.declared.record.Hindrance.TheVariants.{Locked, Dirty, Pinned}
 use Rattle.page.specs.declared.record.PageRecord.{PageRecord}
-use Rattle.page.specs.declared.record.Recount.{Recount}
-use Rattle.page.specs.declared.record.Recount.TheVariants.{Now, AtLimit}
 use Rattle.model.specs.Row.{Page, Entry, Row, total, find, sorted_by_key, those}
 use Rattle.model.specs.Sweep.{touched}
 use Rattle.model.specs.Cache.{Cache, held_in, with_capacity, up, down, leave, new_page, touch, rewritten, replaced_entry}
@@ -83,9 +82,9 @@ release_plain : (key : ℕ) (found : Option Entry) (c : Cache) → Plain (releas
 release_plain key none c = answered
 release_plain key (some e) c = go (one_holder_less e.page.state)
   where
-    go : (r : Recount) → Plain (release_with key r e.page c)
-    go (Now holders) = answered
-    go AtLimit = answered
+    go : (r : Holders) → Plain (release_with key r e.page c)
+    go (Some holders) = answered
+    go None = answered
 
 selected_plain : (ps : List Page) (c : Cache) → Plain (selected ps c)
 selected_plain [] c row = answered row
@@ -120,14 +119,14 @@ hit_counts : (key : ℕ) (asked : Bool) (c : Cache) (e : Entry) → Stands key c
     → Counts (hit_effect asked e.page) c.row (hit key asked e.page c)
 hit_counts key asked c e s = go (one_holder_more e.page.state) asked
   where
-    go : (r : Recount) (b : Bool) → Counts (hit_effect_with r b e.page) c.row (hit_with key r b e.page c)
-    go (Now holders) true =
+    go : (r : Holders) (b : Bool) → Counts (hit_effect_with r b e.page) c.row (hit_with key r b e.page c)
+    go (Some holders) true =
         let now : Entry → Entry = rewritten (with_holders e.page.state holders) in
-        touched_counts s (hit_with key (Now holders) true e.page c) (touched (now e)) refl
+        touched_counts s (hit_with key (Some holders) true e.page c) (touched (now e)) refl
         (stands_change key _ (now e) (stands_changed key c.row e s now s.named) touched) refl refl
         (record { passed = refl; falls = refl })
-    go (Now holders) false = answered c.row
-    go AtLimit b = answered c.row
+    go (Some holders) false = answered c.row
+    go None b = answered c.row
 
 lookup_counts : (key : ℕ) (found : Option Entry) (c : Cache) → find key c.row ≡ found
     → Counts (lookup_effect found) c.row (lookup_found key found c)
@@ -237,28 +236,28 @@ module _ (key handle : ℕ) (state : PageRecord) where
       p : Page
       p = e.page
 
-      deleted : (d : Deletable) → Counts (elim d [
-        | Yes ↦ room_effect (leave p c) (p.handle ∷ [])
-        | Locked ↦ neither
-        | Dirty ↦ neither
-        | Pinned ↦ neither
+      deleted : (d : Result Unit Hindrance) → Counts (elim d [
+        | Ok _ ↦ room_effect (leave p c) (p.handle ∷ [])
+        | Err Locked ↦ neither
+        | Err Dirty ↦ neither
+        | Err Pinned ↦ neither
       ]) c.row (elim d [
-        | Yes ↦ listing (p.handle ∷ []) (admit key handle state how (leave p c))
-        | Locked ↦ answer 5 p.key c
-        | Dirty ↦ answer 6 p.key c
-        | Pinned ↦ answer 7 p.key c
+        | Ok _ ↦ listing (p.handle ∷ []) (admit key handle state how (leave p c))
+        | Err Locked ↦ answer 5 p.key c
+        | Err Dirty ↦ answer 6 p.key c
+        | Err Pinned ↦ answer 7 p.key c
       ])
-      deleted Yes = room_counts how (p.handle ∷ []) (leave p c) c.row (leave_kept p c k)
-      deleted Locked = answered c.row
-      deleted Dirty = answered c.row
-      deleted Pinned = answered c.row
+      deleted (Ok _) = room_counts how (p.handle ∷ []) (leave p c) c.row (leave_kept p c k)
+      deleted (Err Locked) = answered c.row
+      deleted (Err Dirty) = answered c.row
+      deleted (Err Pinned) = answered c.row
 
       go : (b : Bool) → Counts (elim b [
         | true ↦ elim (deletable p.state) [
-          | Yes ↦ room_effect (leave p c) (p.handle ∷ [])
-          | Locked ↦ neither
-          | Dirty ↦ neither
-          | Pinned ↦ neither
+          | Ok _ ↦ room_effect (leave p c) (p.handle ∷ [])
+          | Err Locked ↦ neither
+          | Err Dirty ↦ neither
+          | Err Pinned ↦ neither
         ]
         | false ↦ present_effect how handle p
       ]) c.row (elim b [ true ↦ deleting p (admit key handle state how) c | false ↦ present key handle state how p c ])

@@ -1,5 +1,6 @@
 -- What a hit is for. The page that was found has one holder more; a page with a holder is neither evicted nor selected for a spill; and a
 -- release gives back what a peek took.
+use Rattle.std.specs.Prelude.{Some, None}
 use mathlib.Core.Bool.{Bool, true, false, cond, not, ◌&&◌, false≢true}
 use mathlib.Core.List.{◌∷◌, ◌++◌}
 use mathlib.Core.Option.{Option, none, some}
@@ -11,7 +12,6 @@ use borrow.Author.Tests.{not-false, eqb-true, lt-ltb}
 use Rattle.page.specs.Cache.{page_one, may_go, spillable}
 use Rattle.page.specs.Record.{locked, dirty, spilled, pinned, held, stale, clean_or_spilled, holders_max, with_holders}
 use Rattle.page.specs.declared.record.PageRecord.{PageRecord}
-use Rattle.page.specs.declared.record.Recount.TheVariants.{Now, AtLimit}
 use Rattle.model.specs.Row.{Entry, Row, find, change}
 use Rattle.model.specs.Sweep.{touched}
 use Rattle.model.specs.Cache.{Cache, with_row, rewritten, rewrite}
@@ -91,7 +91,7 @@ hit_holds key asked c e there = go (ltb e.page.state.holders holders_max) asked
     s : Stands key c.row e
     s = find_stands key c.row e there
 
-    go : (b asked : Bool) → IfDone key c (hit_with key (cond b (Now (e.page.state.holders + 1)) AtLimit) asked e.page c)
+    go : (b asked : Bool) → IfDone key c (hit_with key (cond b (Some (e.page.state.holders + 1)) None) asked e.page c)
     go true true done = record {
       before = e;
       after = touched (rewritten (more key c e s) e);
@@ -150,7 +150,7 @@ module _ (key : ℕ) (c : Cache) (e : Entry) (s : Stands key c.row e) where
       let d = rewrite key (more key c e s) c in
       release_found_lem key d
       ∙ ap {B = Outcome} (λ (v : Option Entry). release_found key v d) (stands_find key _ _ (written key c e s))
-      ∙ ap {B = Outcome} (λ (b : Bool). release_with key (cond b (Now (n key c e s + 1 - 1)) AtLimit) (rewritten (more key c e s) e).page d) (lt-ltb 0 (n key c e s + 1) (omega arith))
+      ∙ ap {B = Outcome} (λ (b : Bool). release_with key (cond b (Some (n key c e s + 1 - 1)) None) (rewritten (more key c e s) e).page d) (lt-ltb 0 (n key c e s + 1) (omega arith))
       ∙ ap {B = Outcome} (λ (row : Row). answer 0 0 (with_row row c)) (same_row key c e s)
 
 -- after a peek without a touch it leaves the cache as it was before the peek
@@ -160,7 +160,7 @@ Undone key c o = o.code ≡ 0 → step (release key) o.cache ≡ answer 0 0 c
 pub release_undoes : (key : ℕ) (c : Cache) → (step (peek key false) c).code ≡ 0 → step (release key) (step (peek key false) c).cache ≡ answer 0 0 c
 release_undoes key c = rw (peek_found_lem key false c) (go (find key c.row) refl)
   where
-    counted : (e : Entry) (s : Stands key c.row e) (b : Bool) → Undone key c (hit_with key (cond b (Now (e.page.state.holders + 1)) AtLimit) false e.page c)
+    counted : (e : Entry) (s : Stands key c.row e) (b : Bool) → Undone key c (hit_with key (cond b (Some (e.page.state.holders + 1)) None) false e.page c)
     counted e s true = λ done. released key c e s
     counted e s false = λ done. absurd (omega arith)
 

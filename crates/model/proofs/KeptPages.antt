@@ -1,5 +1,6 @@
 -- Every change of one page keeps the limits: a page that stands in the row goes, is touched, has its record written, or gives
 -- its place to another, and the row splits there.
+use Rattle.std.specs.Prelude.{Some, None}
 use mathlib.Core.Bool.{Bool, true, false, cond}
 use mathlib.Core.List.{◌∷◌, ◌++◌}
 use mathlib.Core.Option.{Option, none, some}
@@ -9,10 +10,8 @@ use native.Mathlib.Omega.{arith}
 use lib.Dec.{ltb}
 use lib.ListN.{length, length-append}
 use borrow.Author.Tests.{ltb-true}
-use Rattle.page.specs.Record.{all_flags, holders_max, with_holders, one_holder_more, one_holder_less}
+use Rattle.page.specs.Record.{Holders, all_flags, holders_max, with_holders, one_holder_more, one_holder_less}
 use Rattle.page.specs.declared.record.PageRecord.{PageRecord}
-use Rattle.page.specs.declared.record.Recount.{Recount}
-use Rattle.page.specs.declared.record.Recount.TheVariants.{Now, AtLimit}
 use Rattle.page.proofs.Each.{each_middle}
 use Rattle.model.specs.Row.{Page, Entry, Row, Each, find, change, without}
 use Rattle.model.specs.Sweep.{touched}
@@ -136,21 +135,21 @@ module _ (c : Cache) (k : CacheInvariant c) (key : ℕ) (e : Entry) (s : Stands 
 
 -- ── one holder more or less ──────────────────────────────────────────────────
 -- a number that a record can count, if there is one
-abbrev pub FitsRecord : Recount → Type 0
-FitsRecord (Now holders) = holders < 2 ^ 16
-FitsRecord AtLimit = Unit {0}
+abbrev pub FitsRecord : Holders → Type 0
+FitsRecord (Some holders) = holders < 2 ^ 16
+FitsRecord None = Unit {0}
 
 pub more_fits : (p : PageRecord) → FitsRecord (one_holder_more p)
 more_fits p = go (ltb p.holders holders_max) refl
   where
-    go : (b : Bool) → ltb p.holders holders_max ≡ b → FitsRecord (cond b (Now (p.holders + 1)) AtLimit)
+    go : (b : Bool) → ltb p.holders holders_max ≡ b → FitsRecord (cond b (Some (p.holders + 1)) None)
     go true q = omega (arith, ltb-true p.holders holders_max q)
     go false q = tt
 
 pub less_fits : (p : PageRecord) → RecordInRange p → FitsRecord (one_holder_less p)
 less_fits p fit = go (ltb 0 p.holders)
   where
-    go : (b : Bool) → FitsRecord (cond b (Now (p.holders - 1)) AtLimit)
+    go : (b : Bool) → FitsRecord (cond b (Some (p.holders - 1)) None)
     go true = omega (arith, fit.holders)
     go false = tt
 

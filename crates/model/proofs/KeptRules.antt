@@ -1,5 +1,6 @@
 -- What every call leaves: the limits are kept, no more handles are listed than pages were held, and a code from 11 on says that
 -- nothing was changed. Rule by rule, by the answers that the rule can give.
+use Rattle.std.specs.Prelude.{Some, None}
 use mathlib.Core.Bool.{Bool, true, false}
 use mathlib.Core.List.{List, [], ◌∷◌, map, append-nil}
 use mathlib.Core.Logic.{inl}
@@ -11,10 +12,8 @@ use lib.Dec.{eqb}
 use lib.ListN.{length, length-append, length-map, length-take}
 use borrow.Author.Tests.{ltb-false}
 use Rattle.page.specs.Cache.{page_one}
-use Rattle.page.specs.Record.{all_flags, dirty, stale, with_holders, one_holder_more, one_holder_less}
+use Rattle.page.specs.Record.{Holders, all_flags, dirty, stale, with_holders, one_holder_more, one_holder_less}
 use Rattle.page.specs.declared.record.PageRecord.{PageRecord}
-use Rattle.page.specs.declared.record.Recount.{Recount}
-use Rattle.page.specs.declared.record.Recount.TheVariants.{Now, AtLimit}
 use Rattle.model.specs.Row.{Page, Entry, Row, find, sorted_by_key, those}
 use Rattle.model.specs.Cache.{Cache, held_in, with_capacity, with_spill, fresh, estimate_max, up, down, leave, rewritten, rewrite, held_by}
 use Rattle.model.specs.Call.{Call, create, insert, lookup, peek, release, delete, resize, truncate, remove_frames, clear, notify_dirty, notify_spilled, write, spill, evict_one, switch, Outcome, answer}
@@ -60,13 +59,13 @@ module _ {given : Type 0} (c : Cache) (k : CacheInvariant c) where
   hit_leaves : (key : ℕ) (asked : Bool) (e : Entry) → Stands key c.row e → Leaves c (held_in c) given (hit key asked e.page c)
   hit_leaves key asked e s = go (one_holder_more e.page.state) asked (more_fits e.page.state)
     where
-      go : (r : Recount) (b : Bool) → FitsRecord r → Leaves c (held_in c) given (hit_with key r b e.page c)
-      go (Now holders) true small =
+      go : (r : Holders) (b : Bool) → FitsRecord r → Leaves c (held_in c) given (hit_with key r b e.page c)
+      go (Some holders) true small =
           let now : Entry → Entry = rewritten (with_holders e.page.state holders) in
           leaves_done c _ (inl refl) (omega arith)
           (λ _. touch_kept (held_by key holders e.page c) (held_kept c k key e s holders small) key (now e) (stands_changed key c.row e s now s.named))
-      go (Now holders) false small = leaves_done c _ (inl refl) (omega arith) (λ _. held_kept c k key e s holders small)
-      go AtLimit b small = leaves_same c 20 0 k
+      go (Some holders) false small = leaves_done c _ (inl refl) (omega arith) (λ _. held_kept c k key e s holders small)
+      go None b small = leaves_same c 20 0 k
 
   lookup_leaves : (key : ℕ) (v : Option Entry) → find key c.row ≡ v → Leaves c (held_in c) given (lookup_found key v c)
   lookup_leaves key none q = leaves_same c 4 0 k
@@ -87,9 +86,9 @@ module _ {given : Type 0} (c : Cache) (k : CacheInvariant c) where
       s : Stands key c.row e
       s = find_stands key c.row e q
 
-      go : (r : Recount) → FitsRecord r → Leaves c (held_in c) given (release_with key r e.page c)
-      go (Now holders) small = leaves_done c _ (inl refl) (omega arith) (λ _. held_kept c k key e s holders small)
-      go AtLimit small = leaves_same c 20 0 k
+      go : (r : Holders) → FitsRecord r → Leaves c (held_in c) given (release_with key r e.page c)
+      go (Some holders) small = leaves_done c _ (inl refl) (omega arith) (λ _. held_kept c k key e s holders small)
+      go None small = leaves_same c 20 0 k
 
   -- ── evictions, asked for ───────────────────────────────────────────────────
   resize_leaves : (capacity : ℕ) → capacity ≤ c.size → Leaves c (held_in c) given (on_resize capacity c)

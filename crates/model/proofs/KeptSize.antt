@@ -1,5 +1,6 @@
 -- No call changes the number of slots: every rule builds the cache that it leaves from the one that it was given, with the
 -- same size.
+use Rattle.std.specs.Prelude.{Some, None}
 use mathlib.Core.Bool.{Bool, true, false}
 use mathlib.Core.List.{List, [], ◌∷◌}
 use mathlib.Core.Option.{Option, none, some}
@@ -7,10 +8,8 @@ use mathlib.Core.Path.{◌≡◌, refl, ◌∙◌}
 use Prim.Native.Nat.{ℕ, zero, suc, ◌-◌}
 use lib.Dec.{eqb, ltb}
 use Rattle.page.specs.Cache.{page_one}
-use Rattle.page.specs.Record.{stale, one_holder_more, one_holder_less}
+use Rattle.page.specs.Record.{Holders, stale, one_holder_more, one_holder_less}
 use Rattle.page.specs.declared.record.PageRecord.{PageRecord}
-use Rattle.page.specs.declared.record.Recount.{Recount}
-use Rattle.page.specs.declared.record.Recount.TheVariants.{Now, AtLimit}
 use Rattle.model.specs.Row.{Page, Entry, Row, find, sorted_by_key, those}
 use Rattle.model.specs.Cache.{Cache, held_in, leave}
 use Rattle.model.specs.Call.{Call, create, insert, lookup, peek, release, delete, resize, truncate, remove_frames, clear, notify_dirty, notify_spilled, write, spill, evict_one, switch, Insertion, plain, forced, upsert, Outcome, answer}
@@ -71,10 +70,10 @@ module _ (key handle : ℕ) (state : PageRecord) where
       (λ _. stale_size how e.page c) (λ _. present_size how e.page c)
 
 -- ── the other rules ──────────────────────────────────────────────────────────
-hit_size : (key : ℕ) (r : Recount) (asked : Bool) (p : Page) (c : Cache) → SameSize c (hit_with key r asked p c)
-hit_size key (Now holders) true p c = refl
-hit_size key (Now holders) false p c = refl
-hit_size key AtLimit asked p c = refl
+hit_size : (key : ℕ) (r : Holders) (asked : Bool) (p : Page) (c : Cache) → SameSize c (hit_with key r asked p c)
+hit_size key (Some holders) true p c = refl
+hit_size key (Some holders) false p c = refl
+hit_size key None asked p c = refl
 
 lookup_size : (key : ℕ) (v : Option Entry) (c : Cache) → SameSize c (lookup_found key v c)
 lookup_size key none c = refl
@@ -89,9 +88,9 @@ release_size : (key : ℕ) (v : Option Entry) (c : Cache) → SameSize c (releas
 release_size key none c = refl
 release_size key (some e) c = go (one_holder_less e.page.state)
   where
-    go : (r : Recount) → SameSize c (release_with key r e.page c)
-    go (Now holders) = refl
-    go AtLimit = refl
+    go : (r : Holders) → SameSize c (release_with key r e.page c)
+    go (Some holders) = refl
+    go None = refl
 
 delete_size : (v : Option Entry) (c : Cache) → SameSize c (delete_found v c)
 delete_size none c = refl

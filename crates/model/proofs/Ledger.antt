@@ -1,5 +1,6 @@
 -- Sweeps take away no more uses than there were touches: uses come into a row by touches alone, so what sweeps took away and
 -- what the row has left is never more than the touches and what the row had. Call by call, and so over a run.
+use Rattle.std.specs.Prelude.{Ok, Err, Result, Some, None}
 use mathlib.Core.Bool.{Bool, true, false}
 use mathlib.Core.List.{List, [], ◌∷◌}
 use mathlib.Core.Option.{Option, none, some}
@@ -7,12 +8,10 @@ use Prim.Native.Nat.{ℕ, zero, suc, ◌+◌, ◌-◌, ◌≤◌}
 use native.Mathlib.Omega.{arith}
 use lib.Dec.{eqb, ltb}
 use Rattle.page.specs.Cache.{page_one}
-use Rattle.page.specs.Record.{dirty, stale, deletable, with_holders, one_holder_more, one_holder_less}
-use Rattle.page.specs.declared.record.Deletable.{Deletable}
-use Rattle.page.specs.declared.record.Deletable.TheVariants.{Yes, Locked, Dirty, Pinned}
+use Rattle.page.specs.Record.{Holders, dirty, stale, deletable, with_holders, one_holder_more, one_holder_less}
+use Rattle.page.specs.declared.record.Hindrance.{Hindrance}
+use Rattle.page.specs.declared.record.Hindrance.TheVariants.{Locked, Dirty, Pinned}
 use Rattle.page.specs.declared.record.PageRecord.{PageRecord}
-use Rattle.page.specs.declared.record.Recount.{Recount}
-use Rattle.page.specs.declared.record.Recount.TheVariants.{Now, AtLimit}
 use Rattle.model.specs.Row.{Page, Entry, Row, find, change, sorted_by_key, those, total}
 use Rattle.model.specs.Sweep.{touched}
 use Rattle.model.specs.Cache.{Cache, held_in, fresh, page_may_go, up, down, leave, new_page, rewritten, replaced_entry}
@@ -84,16 +83,16 @@ deleting_balanced : (p : Page) (follow : Cache → Outcome) (c : Cache) → Bala
     → Balanced c.row (deleting p follow c)
 deleting_balanced p follow c h = go (deletable p.state)
   where
-    go : (d : Deletable) → Balanced c.row (elim d [
-      | Yes ↦ listing (p.handle ∷ []) (follow (leave p c))
-      | Locked ↦ answer 5 p.key c
-      | Dirty ↦ answer 6 p.key c
-      | Pinned ↦ answer 7 p.key c
+    go : (d : Result Unit Hindrance) → Balanced c.row (elim d [
+      | Ok _ ↦ listing (p.handle ∷ []) (follow (leave p c))
+      | Err Locked ↦ answer 5 p.key c
+      | Err Dirty ↦ answer 6 p.key c
+      | Err Pinned ↦ answer 7 p.key c
     ])
-    go Yes = record { balance = omega (arith, h.balance, total_without p.key c.row) }
-    go Locked = still
-    go Dirty = still
-    go Pinned = still
+    go (Ok _) = record { balance = omega (arith, h.balance, total_without p.key c.row) }
+    go (Err Locked) = still
+    go (Err Dirty) = still
+    go (Err Pinned) = still
 
 delete_balanced : (found : Option Entry) (c : Cache) → Balanced c.row (delete_found found c)
 delete_balanced none c = still
@@ -110,12 +109,12 @@ rewrite_adds key state row = omega (arith, total_change 0 (rewritten state) (λ 
 hit_balanced : (key : ℕ) (asked : Bool) (p : Page) (c : Cache) → Balanced c.row (hit key asked p c)
 hit_balanced key asked p c = go (one_holder_more p.state) asked
   where
-    go : (r : Recount) (b : Bool) → Balanced c.row (hit_with key r b p c)
-    go (Now holders) true =
+    go : (r : Holders) (b : Bool) → Balanced c.row (hit_with key r b p c)
+    go (Some holders) true =
         let state : PageRecord = with_holders p.state holders in
         touch_pays (omega (arith, touch_adds key (change key (rewritten state) c.row), rewrite_adds key state c.row))
-    go (Now holders) false = fewer_uses (rewrite_adds key (with_holders p.state holders) c.row)
-    go AtLimit b = still
+    go (Some holders) false = fewer_uses (rewrite_adds key (with_holders p.state holders) c.row)
+    go None b = still
 
 -- ── rules 5, 6 and 7: insertion ──────────────────────────────────────────────
 module _ (key handle : ℕ) (state : PageRecord) where
@@ -164,9 +163,9 @@ release_balanced : (key : ℕ) (found : Option Entry) (c : Cache) → Balanced c
 release_balanced key none c = still
 release_balanced key (some e) c = go (one_holder_less e.page.state)
   where
-    go : (r : Recount) → Balanced c.row (release_with key r e.page c)
-    go (Now holders) = fewer_uses (rewrite_adds key (with_holders e.page.state holders) c.row)
-    go AtLimit = still
+    go : (r : Holders) → Balanced c.row (release_with key r e.page c)
+    go (Some holders) = fewer_uses (rewrite_adds key (with_holders e.page.state holders) c.row)
+    go None = still
 
 -- ── rule 10: resize ──────────────────────────────────────────────────────────
 resize_balanced : (capacity : ℕ) (c : Cache) → Balanced c.row (on_resize capacity c)

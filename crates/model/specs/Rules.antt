@@ -1,12 +1,10 @@
 -- Rules 6 to 12, a call at a time.
-use Rattle.std.specs.Prelude.{Bool, true, false, not, ◌&&◌, List, [], ◌∷◌, map, ℕ, eqb, ltb}
+use Rattle.std.specs.Prelude.{Bool, true, false, not, ◌&&◌, List, [], ◌∷◌, map, ℕ, eqb, ltb, Ok, Err, Some, None}
 use Rattle.std.proofs.Math.Option.{Option, none, some}
 use Rattle.page.specs.Cache.{page_one}
-use Rattle.page.specs.Record.{dirty, tagged, stale, deletable, one_holder_more, one_holder_less}
-use Rattle.page.specs.declared.record.Deletable.TheVariants.{Yes, Locked, Dirty, Pinned}
+use Rattle.page.specs.Record.{Holders, dirty, tagged, stale, deletable, one_holder_more, one_holder_less}
+use Rattle.page.specs.declared.record.Hindrance.TheVariants.{Locked, Dirty, Pinned}
 use Rattle.page.specs.declared.record.PageRecord.{PageRecord}
-use Rattle.page.specs.declared.record.Recount.{Recount}
-use Rattle.page.specs.declared.record.Recount.TheVariants.{Now, AtLimit}
 use Rattle.model.specs.Row.{Page, Entry, Row, find, sorted_by_key, those}
 use Rattle.model.specs.Cache.{Cache, held_in, with_row, with_estimate, with_capacity, up, down, new_page, enter, leave, touch, rewrite, held_by, replace}
 use Rattle.model.specs.Call.{Insertion, plain, forced, upsert, Outcome, answer, listing, touching}
@@ -17,10 +15,10 @@ use Rattle.model.specs.Rooms.{Room, sweep_of, evicted, enough, sweeping, evict_t
 -- the key. Holders aren't tested, and page 1 may be deleted
 abbrev pub deleting : Page → (Cache → Outcome) → Cache → Outcome
 deleting p follow c = elim (deletable p.state) [
-  | Yes ↦ listing (p.handle ∷ []) (follow (leave p c))
-  | Locked ↦ answer 5 p.key c
-  | Dirty ↦ answer 6 p.key c
-  | Pinned ↦ answer 7 p.key c
+  | Ok _ ↦ listing (p.handle ∷ []) (follow (leave p c))
+  | Err Locked ↦ answer 5 p.key c
+  | Err Dirty ↦ answer 6 p.key c
+  | Err Pinned ↦ answer 7 p.key c
 ]
 
 abbrev pub delete_found : Option Entry → Cache → Outcome
@@ -74,10 +72,10 @@ module _ (key handle : ℕ) (state : PageRecord) where
 
 -- ── rule 9: lookup, peek and release ─────────────────────────────────────────
 -- a hit answers the page's handle and adds one holder, with a touch or without; if the record can't count one more, nothing is changed
-abbrev pub hit_with : ℕ → Recount → Bool → Page → Cache → Outcome
-hit_with key (Now holders) true p c = touching (answer 0 p.handle (touch key (held_by key holders p c)))
-hit_with key (Now holders) false p c = answer 0 p.handle (held_by key holders p c)
-hit_with key AtLimit touches p c = answer 20 0 c
+abbrev pub hit_with : ℕ → Holders → Bool → Page → Cache → Outcome
+hit_with key (Some holders) true p c = touching (answer 0 p.handle (touch key (held_by key holders p c)))
+hit_with key (Some holders) false p c = answer 0 p.handle (held_by key holders p c)
+hit_with key None touches p c = answer 20 0 c
 
 abbrev pub hit : ℕ → Bool → Page → Cache → Outcome
 hit key touches p c = hit_with key (one_holder_more p.state) touches p c
@@ -99,9 +97,9 @@ abbrev pub on_peek : ℕ → Bool → Cache → Outcome
 on_peek key asked c = peek_found key asked (find key c.row) c
 
 -- the page has one holder less, whatever else its record says; if there is none, nothing is changed
-abbrev pub release_with : ℕ → Recount → Page → Cache → Outcome
-release_with key (Now holders) p c = answer 0 0 (held_by key holders p c)
-release_with key AtLimit p c = answer 20 0 c
+abbrev pub release_with : ℕ → Holders → Page → Cache → Outcome
+release_with key (Some holders) p c = answer 0 0 (held_by key holders p c)
+release_with key None p c = answer 20 0 c
 
 abbrev pub release_found : ℕ → Option Entry → Cache → Outcome
 release_found key none c = answer 4 0 c

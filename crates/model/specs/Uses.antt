@@ -1,12 +1,10 @@
 -- Demand 3's ledger: which page a call touches, and which evictions it makes, as a function of the cache before the call. An `Outcome`
 -- counts touches and falls where they happen; that it counts these and no others is proved (proofs/Exact.antt).
-use Rattle.std.specs.Prelude.{Bool, true, false, List, [], ◌∷◌, ◌++◌, ◌≡◌, ℕ, zero, suc, ◌+◌, ◌-◌, eqb, length}
+use Rattle.std.specs.Prelude.{Bool, true, false, List, [], ◌∷◌, ◌++◌, ◌≡◌, ℕ, zero, suc, ◌+◌, ◌-◌, eqb, length, Ok, Err, Some, None}
 use Rattle.std.proofs.Math.Option.{Option, none, some}
 use Rattle.page.specs.Entry.{raised}
-use Rattle.page.specs.Record.{stale, deletable, one_holder_more}
-use Rattle.page.specs.declared.record.Deletable.TheVariants.{Yes, Locked, Dirty, Pinned}
-use Rattle.page.specs.declared.record.Recount.{Recount}
-use Rattle.page.specs.declared.record.Recount.TheVariants.{Now, AtLimit}
+use Rattle.page.specs.Record.{Holders, stale, deletable, one_holder_more}
+use Rattle.page.specs.declared.record.Hindrance.TheVariants.{Locked, Dirty, Pinned}
 use Rattle.model.specs.Row.{Page, Entry, Row, find, total}
 use Rattle.model.specs.Cache.{Cache, leave, enter_row}
 use Rattle.model.specs.Call.{Insertion, plain, forced, upsert, Call, create, insert, lookup, peek, release, delete, resize, truncate, remove_frames, clear, notify_dirty, notify_spilled, write, spill, evict_one, switch, Outcome}
@@ -51,19 +49,19 @@ abbrev pub insert_effect : Insertion → ℕ → Option Entry → Cache → Effe
 insert_effect how handle none c = room_effect c []
 insert_effect how handle (some e) c = elim (stale e.page.state) [
   | true ↦ elim (deletable e.page.state) [
-    | Yes ↦ room_effect (leave e.page c) (e.page.handle ∷ [])
-    | Locked ↦ neither
-    | Dirty ↦ neither
-    | Pinned ↦ neither
+    | Ok _ ↦ room_effect (leave e.page c) (e.page.handle ∷ [])
+    | Err Locked ↦ neither
+    | Err Dirty ↦ neither
+    | Err Pinned ↦ neither
   ]
   | false ↦ present_effect how handle e.page
 ]
 
 -- rule 9. A hit touches its page if it is to, unless the page can't have one holder more
-abbrev pub hit_effect_with : Recount → Bool → Page → Effect
-hit_effect_with (Now holders) true p = touches p
-hit_effect_with (Now holders) false p = neither
-hit_effect_with AtLimit asked p = neither
+abbrev pub hit_effect_with : Holders → Bool → Page → Effect
+hit_effect_with (Some holders) true p = touches p
+hit_effect_with (Some holders) false p = neither
+hit_effect_with None asked p = neither
 
 abbrev pub hit_effect : Bool → Page → Effect
 hit_effect asked p = hit_effect_with (one_holder_more p.state) asked p

@@ -115,7 +115,7 @@ module _ {m : Memory} {head : PageCache} {c : Cache} (H : Holds m head c) where
     pub held_small : head.held < max_slots
     held_small = omega (arith, holds_held H, H.limits.most)
 
-    module _ {gaps : Gaps} {key handle : ℕ} (right : GapsOf m.slots m.by_key m.by_handle head.held key handle gaps) where
+    module _ {gaps : Gaps} {key handle : ℕ} (right : GapsOf m head.held key handle gaps) where
       pub by_key_room : CanInsert m.by_key head.held gaps.key
       by_key_room = record { place = right.of_key.within; room = omega (arith, holds_held H, H.lengths.by_key) }
 
@@ -139,7 +139,7 @@ module _ {m : Memory} {head : PageCache} {c : Cache} (H : Holds m head c) where
 
   -- ── what the code leaves ───────────────────────────────────────────────────
   module _ {gaps : Gaps} {key : PageCacheKey} {handle : PageHandle} {page : PageRecord} {m' : Memory} {head' : PageCache}
-      (right : GapsOf m.slots m.by_key m.by_handle head.held key.0 handle.0 gaps) (flags : page.flags ≤ all_flags)
+      (right : GapsOf m head.held key.0 handle.0 gaps) (flags : page.flags ≤ all_flags)
       (t : PutTogether m head gaps key handle page m' head') where
     abbrev s : ℕ
     s = t.slot.0

@@ -1,5 +1,6 @@
 -- What a search of an index says of the row. The index lists the seats, a seat's name is its entry's, and no two seats share
 -- one: so a name that is found is the entry's, and one that isn't found is no entry's.
+use Rattle.std.specs.Prelude.{Result, Ok, Err}
 use mathlib.Core.Path.{◌≡◌, refl, sym, ap, ◌∙◌, subst}
 use mathlib.Core.Bool.{Bool, true, false, not, ◌&&◌}
 use mathlib.Core.List.{List, [], ◌∷◌}
@@ -34,8 +35,6 @@ use Rattle.memory.specs.Holds.{seen, row_of, Holds}
 use Rattle.memory.proofs.Rows.{each_seat, seat_each}
 use Rattle.memory.proofs.Standing.{seat_found}
 use Rattle.moves.specs.declared.finding.Gaps.{Gaps}
-use Rattle.moves.specs.declared.finding.Seat.{Seat}
-use Rattle.moves.specs.declared.finding.Seat.TheVariants as variants
 use Rattle.moves.specs.declared.finding.HandleSeat.{HandleSeat}
 use Rattle.moves.specs.declared.finding.HandleSeat.TheVariants.{Elsewhere, UnderKey, Nowhere}
 use Rattle.moves.specs.Moves.{KeyAt, GapIn, SeatIs, SeatGap, Seats, HandleIs, HandleSeatGap, SeatsHandle, NewNames, GapsOf}
@@ -137,7 +136,7 @@ module _ {m : Memory} {head : PageCache} {c : Cache} {n : ℕ} (H : Holds m head
 
 -- ── the gaps of a new page's names ───────────────────────────────────────────
 module _ {m : Memory} {head : PageCache} {c : Cache} (H : Holds m head c) {key handle : ℕ} where
-  pub gaps_new : {gaps : Gaps} → GapsOf m.slots m.by_key m.by_handle head.held key handle gaps → NewNames key handle c.row
+  pub gaps_new : {gaps : Gaps} → GapsOf m head.held key handle gaps → NewNames key handle c.row
   gaps_new right = record { keys = key_new H refl right.of_key; handles = handle_new H refl right.of_handle }
 
   module _ (new : NewNames key handle c.row) where
@@ -153,22 +152,22 @@ module _ {m : Memory} {head : PageCache} {c : Cache} (H : Holds m head c) {key h
 
     pub gaps_found : {gaps : Gaps} → GapFor (names Key (entries m.slots)) m.by_key head.held key gaps.key
         → GapFor (names Handle (entries m.slots)) m.by_handle head.held handle gaps.handle
-        → GapsOf m.slots m.by_key m.by_handle head.held key handle gaps
+        → GapsOf m head.held key handle gaps
     gaps_found by_key by_handle = record {
       of_key = by_key.miss H.seats H.keys (sym H.headed.held) key_absent;
       of_handle = by_handle.miss H.seats H.handles (sym H.headed.held) handle_absent;
     }
 
 -- ── what a search promises, once its answer is known ─────────────────────────
-module _ {by_key slots : List ℕ} {held key : ℕ} {r : Seat} (s : Seats by_key slots held key r) where
+module _ {by_key slots : List ℕ} {held key : ℕ} {r : Result Slot ℕ} (s : Seats by_key slots held key r) where
   module _ {by_handle marks : List ℕ} {head : PageCache} {c : Cache} (H : Holds (memory_of slots by_key by_handle marks) head c) (h : head.held ≡ held) where
-    pub seat_at : {at : Slot} → r ≡ variants.At at → KeyAt c.row key at.0
+    pub seat_at : {at : Slot} → r ≡ Ok at → KeyAt c.row key at.0
     seat_at q = subst (SeatIs c.row key) q (s.seat by_handle marks head c H h)
 
-    pub seat_absent : {gap : ℕ} → r ≡ variants.Absent gap → find key c.row ≡ none
+    pub seat_absent : {gap : ℕ} → r ≡ Err gap → find key c.row ≡ none
     seat_absent q = subst (SeatIs c.row key) q (s.seat by_handle marks head c H h)
 
-  pub seat_gap : {gap : ℕ} → r ≡ variants.Absent gap → GapIn Key slots by_key held key gap
+  pub seat_gap : {gap : ℕ} → r ≡ Err gap → GapIn Key slots by_key held key gap
   seat_gap q = subst (SeatGap slots by_key held key) q s.gap
 
 module _ {by_handle slots : List ℕ} {held key handle : ℕ} {r : HandleSeat} (s : SeatsHandle by_handle slots held key handle r) where

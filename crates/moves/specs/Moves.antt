@@ -1,6 +1,6 @@
 -- What the moves ask of the memory and what they make of it. Each asks for memory that holds a cache, and then says, of every
 -- cache that it holds, which cache it holds afterwards: a change that the model has a word for.
-use Rattle.std.specs.Prelude.{◌≡◌, true, false, List, ◌≢◌, ℕ, ◌≤◌, ◌<◌, length}
+use Rattle.std.specs.Prelude.{◌≡◌, true, false, List, ◌≢◌, ℕ, ◌≤◌, ◌<◌, length, Result, Ok, Err}
 use Rattle.std.proofs.Math.Option.{none, some}
 use Rattle.page.specs.Record.{all_flags}
 use Rattle.page.specs.declared.cache.PageCache.{PageCache}
@@ -17,8 +17,7 @@ use Rattle.model.specs.Row.{Entry, Row, Each, find}
 use Rattle.model.specs.Tests.{under_other}
 use Rattle.memory.specs.Memory.{Memory, memory_of}
 use Rattle.memory.specs.Holds.{Holds}
-use Rattle.moves.specs.declared.finding.Seat.{Seat}
-use Rattle.moves.specs.declared.finding.Seat.TheVariants.{At, Absent}
+use Rattle.page.specs.declared.names.Slot.{Slot}
 use Rattle.moves.specs.declared.finding.HandleSeat.{HandleSeat}
 use Rattle.moves.specs.declared.finding.HandleSeat.TheVariants.{Elsewhere, UnderKey, Nowhere}
 use Rattle.moves.specs.declared.finding.Gaps.{Gaps}
@@ -35,20 +34,20 @@ pub record KeyAt (row : Row) (key s : ℕ) : Type 0 where
   pub stands : StandsAt row key s entry
 
 -- the answer is the slot of the entry under the key, or that there is none
-abbrev pub SeatIs : Row → ℕ → Seat → Type 0
-SeatIs row key (At s) = KeyAt row key s.0
-SeatIs row key (Absent gap) = find key row ≡ none
+abbrev pub SeatIs : Row → ℕ → Result Slot ℕ → Type 0
+SeatIs row key (Ok s) = KeyAt row key s.0
+SeatIs row key (Err gap) = find key row ≡ none
 
 -- the gap that a name which no slot has would go into, in the index that goes by such names
 abbrev pub GapIn : By → (slots order : List ℕ) (held name gap : ℕ) → Type 0
 GapIn by slots order held name gap = Miss (names by (entries slots)) order held name gap
 
-abbrev pub SeatGap : (slots by_key : List ℕ) (held key : ℕ) → Seat → Type 0
-SeatGap slots by_key held key (At s) = Unit
-SeatGap slots by_key held key (Absent gap) = GapIn Key slots by_key held key gap
+abbrev pub SeatGap : (slots by_key : List ℕ) (held key : ℕ) → Result Slot ℕ → Type 0
+SeatGap slots by_key held key (Ok s) = Unit
+SeatGap slots by_key held key (Err gap) = GapIn Key slots by_key held key gap
 
 -- the answer is right for every cache of `held` pages that a memory with these slots and this index by key holds
-pub record Seats (by_key slots : List ℕ) (held key : ℕ) (r : Seat) : Type 0 where
+pub record Seats (by_key slots : List ℕ) (held key : ℕ) (r : Result Slot ℕ) : Type 0 where
   pub seat : (by_handle marks : List ℕ) (head : PageCache) (c : Cache) → Holds (memory_of slots by_key by_handle marks) head c → head.held ≡ held
       → SeatIs c.row key r
   pub gap : SeatGap slots by_key held key r
@@ -90,22 +89,22 @@ pub record NewNames (key handle : ℕ) (row : Row) : Type 0 where
   pub handles : Each (λ x. handle ≢ x.page.handle) row
 
 -- with some marks the memory holds a cache to which the key and the handle are new
-pub record Unseated (slots by_key by_handle : List ℕ) (head : PageCache) (key handle : ℕ) : Type 0 where
+pub record Unseated (m : Memory) (head : PageCache) (key handle : ℕ) : Type 0 where
   pub marks : List ℕ
   pub cache : Cache
-  pub holds : Holds (memory_of slots by_key by_handle marks) head cache
+  pub holds : Holds (memory_of m.slots m.by_key m.by_handle marks) head cache
   pub new : NewNames key handle cache.row
 
 -- the gaps that they go into
-pub record GapsOf (slots by_key by_handle : List ℕ) (held key handle : ℕ) (gaps : Gaps) : Type 0 where
-  pub of_key : GapIn Key slots by_key held key gaps.key
-  pub of_handle : GapIn Handle slots by_handle held handle gaps.handle
+pub record GapsOf (m : Memory) (held key handle : ℕ) (gaps : Gaps) : Type 0 where
+  pub of_key : GapIn Key m.slots m.by_key held key gaps.key
+  pub of_handle : GapIn Handle m.slots m.by_handle held handle gaps.handle
 
 -- the memory holds a cache which has a slot to spare, and the gaps are those of the key and the handle; the record is good
 pub record Placeable (m : Memory) (head : PageCache) (gaps : Gaps) (key handle : ℕ) (page : PageRecord) : Type 0 where
   pub cache : Cache
   pub holds : Holds m head cache
-  pub right : GapsOf m.slots m.by_key m.by_handle head.held key handle gaps
+  pub right : GapsOf m head.held key handle gaps
   pub room : held_in cache < cache.size
   pub flags : page.flags ≤ all_flags
 

@@ -58,7 +58,7 @@ fn relist(by_handle: &mut [u32], slots: &[u64], n: usize, s: Slot, old: PageHand
     requires { CanRelist (names Handle (entries slots.now)) by_handle.old n s.0 old.0 new.0 }
     ensures { Relisted (names Handle (entries slots.now)) by_handle.old n s.0 old.0 new.0 by_handle.new }
 {
-    if old.0 == new.0 {
+    if old == new {
         return;
     }
     sorted_index::unlist(by_handle, slots, By::Handle, n, old.0);

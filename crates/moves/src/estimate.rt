@@ -5,27 +5,20 @@ ghost use Rattle.moves.specs.Counting.{counted_in, counted_out, counted_over};
 
 use page::{PageCache, PageCacheKey, PageRecord};
 
-const ESTIMATE_MAX: u32 = 4294967295;
-
 pub fn count_up(estimate: u32) -> u32
     ensures { result ≡ up estimate }
 {
-    if estimate < ESTIMATE_MAX {
-        return estimate + 1;
-    }
-    ESTIMATE_MAX
+    estimate.saturating_add(1)
 }
 
 pub fn count_down(estimate: u32) -> u32
     ensures { result ≡ down estimate }
 {
-    if 0 < estimate {
-        return estimate - 1;
-    }
-    0
+    estimate.saturating_sub(1)
 }
 
-// The estimate after the page went.
+// The estimate after the page went. This and `count_in` are each its definition; one function for both would be told by a closure which
+// way to count.
 pub fn count_out(estimate: u32, key: PageCacheKey, page: PageRecord) -> u32
     ensures { result ≡ counted_out key.0 page estimate }
 {
@@ -49,15 +42,11 @@ pub fn count_in(estimate: u32, key: PageCacheKey, page: PageRecord) -> u32
 pub fn count_over(estimate: u32, key: PageCacheKey, old: PageRecord, new: PageRecord) -> u32
     ensures { result ≡ counted_over key.0 old new estimate }
 {
+    let counted = PageCache::counted_as_evictable(key, old);
     let counts = PageCache::counted_as_evictable(key, new);
-    if PageCache::counted_as_evictable(key, old) {
-        if counts {
-            return estimate;
-        }
-        return count_down(estimate);
+    match (counted, counts) {
+        (true, false) => count_down(estimate),
+        (false, true) => count_up(estimate),
+        _ => estimate,
     }
-    if counts {
-        return count_up(estimate);
-    }
-    estimate
 }

@@ -4,29 +4,21 @@ ghost use Rattle.pool.specs.Slots.{entries};
 ghost use Rattle.sorted_index.specs.Names.{names};
 ghost use Rattle.sorted_index.specs.Index.{Index};
 ghost use Rattle.sorted_index.specs.declared.search.By.TheVariants.{Key, Handle};
+ghost use Rattle.memory.specs.Memory.{memory_seen};
 ghost use Rattle.moves.specs.Moves.{Seats, SeatsHandle, Unseated, GapsOf};
 
+use memory::LentView;
 use page::{PageCache, PageCacheKey, PageHandle, Slot};
-use sorted_index::{By, Spot};
+use sorted_index::By;
 
-// Where a key stands: at the slot of its page, or it is absent and has a gap.
-#[derive(Clone, Copy)]
-pub enum Seat {
-    At(Slot),
-    Absent(usize),
-}
-
-pub fn seat_of(by_key: &[u32], slots: &[u64], held: u32, key: PageCacheKey) -> Seat
+// Where a key stands: the slot of its page. If it is absent, its gap. It is lent two parts and no view, as is the search for a handle: some
+// of those who search have no other part.
+pub fn seat_of(by_key: &[u32], slots: &[u64], held: u32, key: PageCacheKey) -> Result<Slot, usize>
     requires { Index (names Key (entries slots.now)) by_key.now held }
     ensures { Seats by_key.now slots.now held key.0 result }
 {
-    match sorted_index::find(by_key, slots, By::Key, held as usize, key.0) {
-        Spot::Here(at) => {
-            let s = Slot(by_key[at]);
-            Seat::At(s)
-        }
-        Spot::Gap(at) => Seat::Absent(at),
-    }
+    let at = sorted_index::find(by_key, slots, By::Key, held as usize, key.0)?;
+    Ok(Slot(by_key[at]))
 }
 
 // Where a handle stands, seen from a key: under another key; under this one, with the slot of its page; or nowhere, and it has a gap.
@@ -48,14 +40,14 @@ pub fn seat_of_handle(
     ensures { SeatsHandle by_handle.now slots.now held key.0 handle.0 result }
 {
     match sorted_index::find(by_handle, slots, By::Handle, held as usize, handle.0) {
-        Spot::Here(at) => {
+        Ok(at) => {
             let s = Slot(by_handle[at]);
             if sorted_index::name(slots, s, By::Key) != key.0 {
                 return HandleSeat::Elsewhere;
             }
             HandleSeat::UnderKey(s)
         }
-        Spot::Gap(at) => HandleSeat::Nowhere(at),
+        Err(gap) => HandleSeat::Nowhere(gap),
     }
 }
 
@@ -68,19 +60,17 @@ pub struct Gaps {
 
 // The gaps of a key and of a handle that no page has.
 pub fn find_gaps(
-    slots: &[u64],
-    by_key: &[u32],
-    by_handle: &[u32],
+    memory: LentView<'_>,
     head: PageCache,
     key: PageCacheKey,
     handle: PageHandle,
 ) -> Gaps
-    requires { Unseated slots.now by_key.now by_handle.now head key.0 handle.0 }
-    ensures { GapsOf slots.now by_key.now by_handle.now head.held key.0 handle.0 result }
+    requires { Unseated (memory_seen memory) head key.0 handle.0 }
+    ensures { GapsOf (memory_seen memory.entry) head.held key.0 handle.0 result }
 {
     let n = head.held as usize;
     Gaps {
-        key: sorted_index::gap(by_key, slots, By::Key, n, key.0),
-        handle: sorted_index::gap(by_handle, slots, By::Handle, n, handle.0),
+        key: sorted_index::gap(memory.by_key, memory.slots, By::Key, n, key.0),
+        handle: sorted_index::gap(memory.by_handle, memory.slots, By::Handle, n, handle.0),
     }
 }

@@ -31,6 +31,6 @@ mod removing;
 
 pub use changing::{replace_at, rewrite_at, touch_at};
 pub use estimate::{count_down, count_in, count_out, count_over, count_up};
-pub use finding::{Gaps, HandleSeat, Seat, find_gaps, seat_of, seat_of_handle};
+pub use finding::{Gaps, HandleSeat, find_gaps, seat_of, seat_of_handle};
 pub use placing::place;
 pub use removing::remove_at_slot;

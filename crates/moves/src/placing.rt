@@ -2,37 +2,37 @@
 ghost use Rattle.std.specs.Prelude.{◌≡◌, ◌<◌};
 ghost use Rattle.page.specs.Cache.{max_slots};
 ghost use Rattle.pool.specs.Slots.{entries};
-ghost use Rattle.memory.specs.Memory.{memory, memories};
+ghost use Rattle.memory.specs.Memory.{memory_in, SameSlices};
 ghost use Rattle.moves.specs.Heads.{head_with, seated_at};
 ghost use Rattle.moves.specs.Moves.{Placeable, Places, Seatable};
 
 use crate::estimate::count_in;
 use crate::finding::Gaps;
+use memory::LentMemory;
 use page::{PageCache, PageCacheEntry, PageCacheKey, PageHandle, PageRecord, Slot};
 
 // Places a page that was never touched, with its names in their gaps. A first one is the hand, another goes directly after the
 // hand. The answer is the head after it.
 pub fn place(
-    slots: &mut [u64],
-    by_key: &mut [u32],
-    by_handle: &mut [u32],
-    marks: &mut [u64],
+    memory: &mut LentMemory<'_>,
     head: PageCache,
     gaps: Gaps,
     key: PageCacheKey,
     handle: PageHandle,
     page: PageRecord,
 ) -> PageCache
-    requires { Placeable (memory slots by_key by_handle marks) head gaps key.0 handle.0 page }
-    ensures { let m = memories slots by_key by_handle marks in Places m.entry head key.0 handle.0 page m.exit result }
+    requires { Placeable (memory_in memory.old) head gaps key.0 handle.0 page }
+    ensures same { SameSlices memory.old memory.new }
+    ensures placed { Places (memory_in memory.old) head key.0 handle.0 page (memory_in memory.new) result }
 {
     let n = head.held as usize;
+    let marks = &mut *memory.marks;
     let s = free_marks::lowest_free(marks);
     free_marks::mark_held(marks, s);
-    sorted_index::enlist_at(by_key, n, gaps.key, s);
-    sorted_index::enlist_at(by_handle, n, gaps.handle, s);
+    sorted_index::enlist_at(memory.by_key, n, gaps.key, s);
+    sorted_index::enlist_at(memory.by_handle, n, gaps.handle, s);
     let e = PageCacheEntry::new(key, handle, page);
-    seat(slots, head, s, e);
+    seat(memory.slots, head, s, e);
     let estimate = count_in(head.estimate, key, page);
     head_with(head, s, estimate)
 }

@@ -1,32 +1,28 @@
 // A page goes (rule 4): out of the ring, of both indexes and of the estimate. Its slot is all zero and marked free, and the hand moves
 // on if it was there.
 ghost use Rattle.std.specs.Prelude.{◌≡◌, ◌≤◌};
-ghost use Rattle.memory.specs.Memory.{memory, memories};
+ghost use Rattle.memory.specs.Memory.{memory_in, SameSlices};
 ghost use Rattle.moves.specs.Heads.{head_without};
 ghost use Rattle.moves.specs.Moves.{Removable, Removes};
 
 use crate::estimate::count_out;
+use memory::LentMemory;
 use page::{PageCache, Slot};
 use sorted_index::By;
 
 // Removes the page at slot s. The answer is the head after it.
-pub fn remove_at_slot(
-    slots: &mut [u64],
-    by_key: &mut [u32],
-    by_handle: &mut [u32],
-    marks: &mut [u64],
-    head: PageCache,
-    s: Slot,
-) -> PageCache
-    requires { Removable (memory slots by_key by_handle marks) head s.0 }
-    ensures { let m = memories slots by_key by_handle marks in Removes m.entry head s.0 m.exit result }
+pub fn remove_at_slot(memory: &mut LentMemory<'_>, head: PageCache, s: Slot) -> PageCache
+    requires { Removable (memory_in memory.old) head s.0 }
+    ensures same { SameSlices memory.old memory.new }
+    ensures removed { Removes (memory_in memory.old) head s.0 (memory_in memory.new) result }
 {
+    let slots = &mut *memory.slots;
     let n = head.held as usize;
     let e = pool::load(slots, s);
-    sorted_index::unlist(by_key, slots, By::Key, n, e.key.0);
-    sorted_index::unlist(by_handle, slots, By::Handle, n, e.handle.0);
+    sorted_index::unlist(memory.by_key, slots, By::Key, n, e.key.0);
+    sorted_index::unlist(memory.by_handle, slots, By::Handle, n, e.handle.0);
     let after = ring_links::unlink(slots, s);
-    free_marks::mark_free(marks, s);
+    free_marks::mark_free(memory.marks, s);
     let estimate = count_out(head.estimate, e.key, e.page);
     head_without(head, s, after, estimate)
 }
@@ -44,7 +40,7 @@ fn head_without(head: PageCache, s: Slot, after: Slot, estimate: u32) -> PageCac
         left.hand = none;
         return left;
     }
-    if head.hand.0 == s.0 {
+    if head.hand == s {
         left.hand = after;
         return left;
     }

@@ -1,11 +1,9 @@
 -- What a page record says of its page (01, "Memory, pages and numbers", and rules 6, 8 and 9).
-use Rattle.std.specs.Prelude.{Bool, cond, not, ◌&&◌, ◌||◌, ℕ, ◌+◌, ◌-◌, eqb, ltb}
+use Rattle.std.specs.Prelude.{Bool, cond, not, ◌&&◌, ◌||◌, ℕ, ◌+◌, ◌-◌, eqb, ltb, Option, Some, None, Result, Ok, Err}
 use Rattle.std.specs.Int.Bits.{bit_and}
 use Rattle.page.specs.declared.record.PageRecord.{PageRecord}
-use Rattle.page.specs.declared.record.Deletable.{Deletable}
-use Rattle.page.specs.declared.record.Deletable.TheVariants.{Yes, Locked, Dirty, Pinned}
-use Rattle.page.specs.declared.record.Recount.{Recount}
-use Rattle.page.specs.declared.record.Recount.TheVariants.{Now, AtLimit}
+use Rattle.page.specs.declared.record.Hindrance.{Hindrance}
+use Rattle.page.specs.declared.record.Hindrance.TheVariants.{Locked, Dirty, Pinned}
 
 -- ── flags: 1 loaded, 2 locked, 4 dirty, 8 spilled, 16 WAL tag ────────────────
 -- the sum of them all
@@ -46,12 +44,16 @@ holders_max = 65535
 abbrev pub with_holders : PageRecord → ℕ → PageRecord
 with_holders p n = record { flags = p.flags; pins = p.pins; holders = n; cells = p.cells; frame = p.frame }
 
--- rule 9: how many holders there are with one more, unless there are as many as a record can count; and with one less, unless there is none
-abbrev pub one_holder_more : PageRecord → Recount
-one_holder_more p = cond (ltb p.holders holders_max) (Now (p.holders + 1)) AtLimit
+-- how many holders there are, or that a record can't count them
+abbrev pub Holders : Type 0
+Holders = Option ℕ
 
-abbrev pub one_holder_less : PageRecord → Recount
-one_holder_less p = cond (ltb 0 p.holders) (Now (p.holders - 1)) AtLimit
+-- rule 9: how many holders there are with one more, unless there are as many as a record can count; and with one less, unless there is none
+abbrev pub one_holder_more : PageRecord → Holders
+one_holder_more p = cond (ltb p.holders holders_max) (Some (p.holders + 1)) None
+
+abbrev pub one_holder_less : PageRecord → Holders
+one_holder_less p = cond (ltb 0 p.holders) (Some (p.holders - 1)) None
 
 -- ── what the rules ask ───────────────────────────────────────────────────────
 -- neither loaded nor locked
@@ -62,5 +64,5 @@ abbrev pub clean_or_spilled : PageRecord → Bool
 clean_or_spilled p = not (dirty p) || spilled p
 
 -- rule 8: deletion tests locked, dirty, pinned, in that order
-abbrev pub deletable : PageRecord → Deletable
-deletable p = cond (locked p) Locked (cond (dirty p) Dirty (cond (pinned p) Pinned Yes))
+abbrev pub deletable : PageRecord → Result Unit Hindrance
+deletable p = cond (locked p) (Err Locked) (cond (dirty p) (Err Dirty) (cond (pinned p) (Err Pinned) (Ok tt)))

@@ -13,7 +13,8 @@ pub struct PageCache {
     pub held: u32,
     // Where the next sweep begins: a held slot, or 0 if nothing is held.
     pub hand: Slot,
-    // 1 if spilling is on, 0 if it is off.
+    // 1 if spilling is on, 0 if it is off. A number and no bool: a head may come from anywhere, and with any other number no memory is
+    // sound (`InRange` of crate soundness).
     pub spill: u8,
     // An estimate of how many pages are clean or spilled. Any value is good; it is no bound.
     pub estimate: u32,
@@ -27,7 +28,7 @@ impl PageCache {
     // The share of the capacity above which a spill may be needed.
     pub const SPILL_THRESHOLD_PERCENT: u64 = 90;
     // The page that is never evicted, spilled or counted: the database header.
-    pub const HEADER_PAGE: u32 = 1;
+    pub const HEADER_PAGE: PageCacheKey = PageCacheKey(1);
 
     pub fn new(capacity: u32) -> Self
         ensures { result ≡ created capacity }
@@ -46,16 +47,13 @@ impl PageCache {
         ensures { result ≡ threshold self.capacity }
     {
         let share = self.capacity as u64 * Self::SPILL_THRESHOLD_PERCENT / 100;
-        if share == 0 {
-            return 1;
-        }
-        share as u32
+        share.max(1) as u32
     }
 
     fn is_header(key: PageCacheKey) -> bool
         ensures { result ≡ page_one key.0 }
     {
-        key.0 == Self::HEADER_PAGE
+        key == Self::HEADER_PAGE
     }
 
     // Whether an eviction may take the page.

@@ -40,11 +40,7 @@ impl PageCacheEntry {
     pub fn bump_ref(mut self) -> Self
         ensures { result ≡ with_uses self (raised self.uses) }
     {
-        if self.uses < PageCache::REF_MAX {
-            self.uses += 1;
-            return self;
-        }
-        self.uses = PageCache::REF_MAX;
+        self.uses = self.uses.saturating_add(1).min(PageCache::REF_MAX);
         self
     }
 
@@ -52,10 +48,7 @@ impl PageCacheEntry {
     pub fn decrement_ref(mut self) -> Self
         ensures { result ≡ with_uses self (lowered self.uses) }
     {
-        if 0 < self.uses {
-            self.uses -= 1;
-            return self;
-        }
+        self.uses = self.uses.saturating_sub(1);
         self
     }
 }

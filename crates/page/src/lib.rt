@@ -18,4 +18,4 @@ mod record;
 pub use cache::PageCache;
 pub use entry::PageCacheEntry;
 pub use names::{PageCacheKey, PageHandle, Slot};
-pub use record::{Deletable, PageRecord, Recount};
+pub use record::{Hindrance, PageRecord};

@@ -4,11 +4,11 @@
 // Tests are joined by `&` and `|`, not by `&&` and `||`: each is a load and a mask, and a sweep asks them of every page
 // that it passes, where one test without branches costs less than several with.
 ghost use Rattle.std.specs.Prelude.{◌≡◌};
-ghost use Rattle.page.specs.Record.{loaded, locked, dirty, spilled, tagged, pinned, held, stale, clean_or_spilled, deletable, one_holder_more, one_holder_less, with_holders};
+ghost use Rattle.page.specs.Record.{flagged, loaded, locked, dirty, spilled, tagged, pinned, held, stale, clean_or_spilled, deletable, one_holder_more, one_holder_less, with_holders};
 
-#[derive(Clone, Copy)]
+#[derive(Clone, Copy, PartialEq, Eq, Default)]
 pub struct PageRecord {
-    // A sum of the flags below, 0 to 31 in a good record.
+    // A sum of the flags below, 0 to 31 in a good record. A number, since a record may come with any, and BadRecord answers it.
     pub flags: u8,
     // How often the page is pinned; a page with any pin is pinned.
     pub pins: u16,
@@ -16,24 +16,16 @@ pub struct PageRecord {
     pub holders: u16,
     // Overflow cells: cells that don't fit on the page yet.
     pub cells: u8,
-    // The write-ahead log's frame that the page was read from, if the page has a WAL tag.
+    // The write-ahead log's frame that the page was read from, if the page has a WAL tag. No Option: it is kept and listed with or without.
     pub frame: u64,
 }
 
-// Whether the page may be deleted or, if not, the first reason against it.
-#[derive(Clone, Copy)]
-pub enum Deletable {
-    Yes,
+// What keeps a page from being deleted.
+#[derive(Clone, Copy, PartialEq, Eq)]
+pub enum Hindrance {
     Locked,
     Dirty,
     Pinned,
-}
-
-// The number of holders after one came or went, or that there is no such number.
-#[derive(Clone, Copy)]
-pub enum Recount {
-    Now(u16),
-    AtLimit,
 }
 
 impl PageRecord {
@@ -48,37 +40,41 @@ impl PageRecord {
     pub const WAL_TAG: u8 = 16;
     // All flags together: a record with any other bit set is bad.
     pub const ALL_FLAGS: u8 = 31;
-    // The most holders that a record can count.
-    pub const MAX_HOLDERS: u16 = 65535;
+
+    fn has(self, flag: u8) -> bool
+        ensures { result ≡ flagged flag self }
+    {
+        self.flags & flag != 0
+    }
 
     pub fn is_loaded(self) -> bool
         ensures { result ≡ loaded self }
     {
-        self.flags & Self::LOADED != 0
+        self.has(Self::LOADED)
     }
 
     pub fn is_locked(self) -> bool
         ensures { result ≡ locked self }
     {
-        self.flags & Self::LOCKED != 0
+        self.has(Self::LOCKED)
     }
 
     pub fn is_dirty(self) -> bool
         ensures { result ≡ dirty self }
     {
-        self.flags & Self::DIRTY != 0
+        self.has(Self::DIRTY)
     }
 
     pub fn is_spilled(self) -> bool
         ensures { result ≡ spilled self }
     {
-        self.flags & Self::SPILLED != 0
+        self.has(Self::SPILLED)
     }
 
     pub fn has_wal_tag(self) -> bool
         ensures { result ≡ tagged self }
     {
-        self.flags & Self::WAL_TAG != 0
+        self.has(Self::WAL_TAG)
     }
 
     pub fn is_pinned(self) -> bool
@@ -93,24 +89,18 @@ impl PageRecord {
         self.holders != 0
     }
 
-    // How many hold the page if one more does.
-    pub fn one_holder_more(self) -> Recount
+    // How many hold the page if one more does, unless a record can't count so many.
+    pub fn one_holder_more(self) -> Option<u16>
         ensures { result ≡ one_holder_more self }
     {
-        if self.holders < Self::MAX_HOLDERS {
-            return Recount::Now(self.holders + 1);
-        }
-        Recount::AtLimit
+        self.holders.checked_add(1)
     }
 
-    // How many still hold the page if one lets go.
-    pub fn one_holder_less(self) -> Recount
+    // How many still hold the page if one lets go, unless nobody holds it.
+    pub fn one_holder_less(self) -> Option<u16>
         ensures { result ≡ one_holder_less self }
     {
-        if 0 < self.holders {
-            return Recount::Now(self.holders - 1);
-        }
-        Recount::AtLimit
+        self.holders.checked_sub(1)
     }
 
     // The record with another number of holders. It is made field by field, and so in registers: a copy of the record that is changed then
@@ -140,19 +130,19 @@ impl PageRecord {
         !self.is_dirty() | self.is_spilled()
     }
 
-    // Holders don't count here, and page 1 may be deleted.
-    pub fn deletable(self) -> Deletable
+    // Whether the page may be deleted or, if not, the first reason against it. Holders don't count here, and page 1 may be deleted.
+    pub fn deletable(self) -> Result<(), Hindrance>
         ensures { result ≡ deletable self }
     {
         if self.is_locked() {
-            return Deletable::Locked;
+            return Err(Hindrance::Locked);
         }
         if self.is_dirty() {
-            return Deletable::Dirty;
+            return Err(Hindrance::Dirty);
         }
         if self.is_pinned() {
-            return Deletable::Pinned;
+            return Err(Hindrance::Pinned);
         }
-        Deletable::Yes
+        Ok(())
     }
 }

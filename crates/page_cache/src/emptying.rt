@@ -1,26 +1,27 @@
 ghost use Rattle.std.specs.Prelude.{length};
 ghost use Rattle.model.specs.Call as call;
-ghost use Rattle.memory.specs.Memory.{memories};
+ghost use Rattle.memory.specs.Memory.{memory_in, SameSlices};
 ghost use Rattle.contract.specs.Called.{lent, Called};
 
 use answer::{Answer, Answered};
+use memory::LentMemory;
 use page::PageCache;
 use soundness::is_sound;
 
 // Removes every page. If one is dirty it removes nothing, unless it is told to remove dirty pages too.
 pub fn clear(
-    slots: &mut [u64],
-    by_key: &mut [u32],
-    by_handle: &mut [u32],
-    marks: &mut [u64],
+    memory: &mut LentMemory<'_>,
     list: &mut [u32],
     head: PageCache,
     dirty_too: bool,
 ) -> Answered
-    ensures { let m = memories slots by_key by_handle marks in Called (call.clear dirty_too (length list.old)) (lent m.entry list.old) head (lent m.exit list.new) result }
+    ensures same { SameSlices memory.old memory.new }
+    ensures called { Called (call.clear dirty_too (length list.old)) (lent (memory_in memory.old) list.old) head (lent (memory_in memory.new) list.new) result }
 {
-    if !is_sound(slots, by_key, by_handle, marks, head) {
+    if !is_sound(memory.view(), head) {
         return Answered::plain(Answer::NotSound, head);
     }
-    clearing::clear(slots, by_key, by_handle, marks, list, head, dirty_too)
+    let answered = clearing::clear(memory, list, head, dirty_too);
+    memory.words_fit();
+    answered
 }

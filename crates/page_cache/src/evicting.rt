@@ -1,25 +1,22 @@
 ghost use Rattle.std.specs.Prelude.{length};
 ghost use Rattle.model.specs.Call as call;
-ghost use Rattle.memory.specs.Memory.{memories};
+ghost use Rattle.memory.specs.Memory.{memory_in, SameSlices};
 ghost use Rattle.contract.specs.Called.{lent, Called};
 
 use answer::{Answer, Answered};
+use memory::LentMemory;
 use page::PageCache;
 use soundness::is_sound;
 
 // Takes one page: of those that may go, the lowest use count, the first from the hand among equals.
-pub fn evict_one(
-    slots: &mut [u64],
-    by_key: &mut [u32],
-    by_handle: &mut [u32],
-    marks: &mut [u64],
-    list: &mut [u32],
-    head: PageCache,
-) -> Answered
-    ensures { let m = memories slots by_key by_handle marks in Called (call.evict_one (length list.old)) (lent m.entry list.old) head (lent m.exit list.new) result }
+pub fn evict_one(memory: &mut LentMemory<'_>, list: &mut [u32], head: PageCache) -> Answered
+    ensures same { SameSlices memory.old memory.new }
+    ensures called { Called (call.evict_one (length list.old)) (lent (memory_in memory.old) list.old) head (lent (memory_in memory.new) list.new) result }
 {
-    if !is_sound(slots, by_key, by_handle, marks, head) {
+    if !is_sound(memory.view(), head) {
         return Answered::plain(Answer::NotSound, head);
     }
-    resizing::evict(slots, by_key, by_handle, marks, list, head)
+    let answered = resizing::evict(memory, list, head);
+    memory.words_fit();
+    answered
 }

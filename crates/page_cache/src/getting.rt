@@ -1,27 +1,28 @@
 ghost use Rattle.std.specs.Prelude.{length};
 ghost use Rattle.model.specs.Call as call;
-ghost use Rattle.memory.specs.Memory.{memories};
+ghost use Rattle.memory.specs.Memory.{memory_in, SameSlices};
 ghost use Rattle.contract.specs.Called.{lent, Called};
 
 use answer::{Answer, Answered};
+use memory::LentMemory;
 use page::{PageCache, PageCacheKey};
 use soundness::is_sound;
 
 // The handle of the page under a key, which is touched and has one holder more, until it is released. A page neither loaded nor locked is
 // deleted instead.
 pub fn get(
-    slots: &mut [u64],
-    by_key: &mut [u32],
-    by_handle: &mut [u32],
-    marks: &mut [u64],
+    memory: &mut LentMemory<'_>,
     list: &mut [u32],
     head: PageCache,
     key: PageCacheKey,
 ) -> Answered
-    ensures { let m = memories slots by_key by_handle marks in Called (call.lookup key.0 (length list.old)) (lent m.entry list.old) head (lent m.exit list.new) result }
+    ensures same { SameSlices memory.old memory.new }
+    ensures called { Called (call.lookup key.0 (length list.old)) (lent (memory_in memory.old) list.old) head (lent (memory_in memory.new) list.new) result }
 {
-    if !is_sound(slots, by_key, by_handle, marks, head) {
+    if !is_sound(memory.view(), head) {
         return Answered::plain(Answer::NotSound, head);
     }
-    lookups::get(slots, by_key, by_handle, marks, list, head, key)
+    let answered = lookups::get(memory, list, head, key);
+    memory.words_fit();
+    answered
 }

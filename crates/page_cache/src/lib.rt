@@ -1,5 +1,5 @@
-// The public calls of the cache, under the Rust's names; but the Rust has no `release_page`, since there a clone is dropped. They ask nothing of what they are lent: any memory of any lengths,
-// any head and any list get a defined answer.
+// The public calls of the cache, under the Rust's names; but the Rust has no `release_page`, since there a clone is dropped. They ask
+// nothing of what they are lent: any memory of any lengths, any head and any list get a defined answer.
 //
 //     plain.rt, forced.rt, upserting.rt   insert, force_insert_page, force_upsert_page
 //     getting.rt, deleting.rt             get, delete
@@ -12,10 +12,13 @@
 //     frames.rt                           delete_clean_pages_after_wal_frame
 //     crate creating                      create
 //     crate soundness                     is_sound: the test that every call but create begins with
-//     crate listing                       list_numbers, list_pages: the listing of the pool
+//     crate listing                       list_pages: the listing of the pool, into numbers or into records
 //
-// Each call tests the memory, refuses with 1 if it is not sound, and otherwise calls the function of the same name that
-// stands on sound memory. What callers may rely on is `Called`, in crate contract.
+// Each call tests the memory, refuses with 1 if it is not sound, and otherwise calls the function that stands on sound memory. That is all
+// that they have in common, two lines: what they promise differs from one to the next. The three insertions differ in their mode alone, and
+// the two notices in their direction: they are names of the Rust's, each with its own word of the model in its contract, and what they do
+// is one function of crate insertion and one of caller_updates. `peek`, `release_page` and `write_record` are lent the slices one by one,
+// since they write one and read the others. What callers may rely on is `Called`, in crate contract.
 #![tactic(auto)]
 
 mod capacity;
@@ -45,7 +48,7 @@ pub use evicting::evict_one;
 pub use forced::force_insert_page;
 pub use frames::delete_clean_pages_after_wal_frame;
 pub use getting::get;
-pub use listing::{list_numbers, list_pages};
+pub use listing::list_pages;
 pub use peeking::peek;
 pub use plain::insert;
 pub use releasing::release_page;

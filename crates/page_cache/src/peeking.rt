@@ -4,6 +4,7 @@ ghost use Rattle.memory.specs.Memory.{memory_of};
 ghost use Rattle.contract.specs.Called.{lent, Called};
 
 use answer::{Answer, Answered};
+use memory::LentView;
 use page::{PageCache, PageCacheKey};
 use soundness::is_sound;
 
@@ -19,7 +20,13 @@ pub fn peek(
 ) -> Answered
     ensures { let before = memory_of slots.old by_key.now by_handle.now marks.now in let after = memory_of slots.new by_key.now by_handle.now marks.now in Called (call.peek key.0 touch) (lent before []) head (lent after []) result }
 {
-    if !is_sound(slots, by_key, by_handle, marks, head) {
+    let memory = LentView {
+        slots,
+        by_key,
+        by_handle,
+        marks,
+    };
+    if !is_sound(memory, head) {
         return Answered::plain(Answer::NotSound, head);
     }
     lookups::peek(slots, by_key, head, key, touch)

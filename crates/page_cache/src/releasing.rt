@@ -4,6 +4,7 @@ ghost use Rattle.memory.specs.Memory.{memory_of};
 ghost use Rattle.contract.specs.Called.{lent, Called};
 
 use answer::{Answer, Answered};
+use memory::LentView;
 use page::{PageCache, PageCacheKey};
 use soundness::is_sound;
 
@@ -18,7 +19,13 @@ pub fn release_page(
 ) -> Answered
     ensures { let before = memory_of slots.old by_key.now by_handle.now marks.now in let after = memory_of slots.new by_key.now by_handle.now marks.now in Called (call.release key.0) (lent before []) head (lent after []) result }
 {
-    if !is_sound(slots, by_key, by_handle, marks, head) {
+    let memory = LentView {
+        slots,
+        by_key,
+        by_handle,
+        marks,
+    };
+    if !is_sound(memory, head) {
         return Answered::plain(Answer::NotSound, head);
     }
     lookups::release_page(slots, by_key, head, key)

@@ -1,30 +1,36 @@
 ghost use Rattle.std.specs.Prelude.{length};
 ghost use Rattle.model.specs.Call as call;
-ghost use Rattle.memory.specs.Memory.{memories};
+ghost use Rattle.memory.specs.Memory.{memory_in, SameSlices};
 ghost use Rattle.contract.specs.Called.{lent, Called};
 
 use answer::{Answer, Answered};
+use insertion::{InsertMode, NewPage, insert_page};
+use memory::LentMemory;
 use page::{PageCache, PageCacheKey, PageHandle, PageRecord};
 use soundness::is_sound;
 
 // Inserts or replaces a page, beyond the capacity if no room can be made.
 pub fn force_upsert_page(
-    slots: &mut [u64],
-    by_key: &mut [u32],
-    by_handle: &mut [u32],
-    marks: &mut [u64],
+    memory: &mut LentMemory<'_>,
     list: &mut [u32],
     head: PageCache,
     key: PageCacheKey,
     handle: PageHandle,
     page: PageRecord,
 ) -> Answered
-    ensures { let m = memories slots by_key by_handle marks in Called (call.insert call.upsert key.0 handle.0 page (length list.old)) (lent m.entry list.old) head (lent m.exit list.new) result }
+    ensures same { SameSlices memory.old memory.new }
+    ensures called { Called (call.insert call.upsert key.0 handle.0 page (length list.old)) (lent (memory_in memory.old) list.old) head (lent (memory_in memory.new) list.new) result }
 {
-    if !is_sound(slots, by_key, by_handle, marks, head) {
+    if !is_sound(memory.view(), head) {
         return Answered::plain(Answer::NotSound, head);
     }
-    insertion::force_upsert_page(
-        slots, by_key, by_handle, marks, list, head, key, handle, page,
-    )
+    let asked = NewPage {
+        key,
+        handle,
+        page,
+        mode: InsertMode::Upsert,
+    };
+    let answered = insert_page(memory, list, head, asked);
+    memory.words_fit();
+    answered
 }

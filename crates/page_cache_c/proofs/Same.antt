@@ -6,11 +6,11 @@ use Prim.Native.Nat.{ℕ}
 use Rattle.pool.specs.Slots.{entries}
 use Rattle.memory.specs.Memory.{Memory}
 use Rattle.creating.specs.Creation as creation
-use Rattle.creating.specs.declared.creating.Created.{Created}
+use Rattle.creating.specs.Creation.{Creation}
 use Rattle.creating.proofs.NewPool.{SameCreation, created_same}
 use Rattle.listing.specs.Outcome as listing
-use Rattle.listing.specs.declared.testing.Listing.{Listing}
 use Rattle.listing.proofs.Outcomes.{comes_once}
+use Rattle.listing.specs.Outcome.{Listing}
 use Rattle.answer.specs.Answer.{code_of}
 use Rattle.answer.specs.declared.answered.Answered.{Answered}
 use Rattle.contract.specs.Called.{State}
@@ -27,8 +27,8 @@ makes_same (makes made l w v) (unmade n p q c) = absurd (n l)
 makes_same {capacity} {m} {a} {b} {head} (makes made l w v) (makes made' l' w' v') =
     let same : SameCreation made a made' b = created_same m capacity made made' a b w w' in (
       same.memory,
-      v.head ∙ ap (λ (c : Created). head_made c head) same.answer ∙ sym v'.head,
-      v.code ∙ ap (λ (c : Created). creation.code_of c) same.answer ∙ sym v'.code,
+      v.head ∙ ap (λ (c : Creation). head_made c head) same.answer ∙ sym v'.head,
+      v.code ∙ ap (λ (c : Creation). creation.code_of c) same.answer ∙ sym v'.code,
     )
 
 pub tests_same : {m : Memory} {head : List ℕ} {x y : ℕ} → Tests m head x → Tests m head y → x ≡ y

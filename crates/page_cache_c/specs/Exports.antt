@@ -3,11 +3,10 @@ use Rattle.std.specs.Prelude.{◌≡◌, List, ℕ, length}
 use Rattle.pool.specs.Slots.{entries}
 use Rattle.memory.specs.Memory.{Memory}
 use Rattle.memory.specs.Holds.{Sound}
+use Rattle.creating.specs.Creation as creation
 use Rattle.creating.specs.Creation.{Creates}
-use Rattle.creating.specs.declared.creating.Created.{Created}
 use Rattle.listing.specs.Listing.{in_numbers}
 use Rattle.listing.specs.Outcome as listing
-use Rattle.listing.specs.declared.testing.Listing.{Listing}
 use Rattle.answer.specs.declared.answered.Answered.{Answered}
 use Rattle.contract.specs.Called.{State}
 use Rattle.apply.specs.Applied.{Applied}
@@ -17,7 +16,7 @@ use Rattle.c_numbers.specs.Put.{PutCreated, PutAnswer}
 -- ── pc_create ────────────────────────────────────────────────────────────────
 pub data Makes (capacity : ℕ) (m : Memory) (head : List ℕ) (m' : Memory) (head' : List ℕ) (code : ℕ) : Type 0 where
   unmade : (length head ≡ 5 → ⊥) → m' ≡ m → head' ≡ head → code ≡ 16 → Makes capacity m head m' head' code
-  makes : (made : Created) → length head ≡ 5 → Creates m capacity made m' → PutCreated made head head' code
+  makes : (made : creation.Creation) → length head ≡ 5 → Creates m capacity made m' → PutCreated made head head' code
       → Makes capacity m head m' head' code
 
 -- ── pc_test ──────────────────────────────────────────────────────────────────
@@ -31,7 +30,7 @@ pub data Tests (m : Memory) (head : List ℕ) (code : ℕ) : Type 0 where
 -- the memory and the head are lent to be read
 pub data Lists (m : Memory) (head list list' : List ℕ) (code : ℕ) : Type 0 where
   unlisted : (length head ≡ 5 → ⊥) → list' ≡ list → code ≡ 16 → Lists m head list list' code
-  lists : (answer : Listing) → length head ≡ 5 → listing.ListingEffect in_numbers m (head_of head) list list' answer
+  lists : (answer : listing.Listing) → length head ≡ 5 → listing.ListingEffect in_numbers m (head_of head) list list' answer
       → code ≡ listing.code_of answer → Lists m head list list' code
 
 -- ── pc_apply ─────────────────────────────────────────────────────────────────

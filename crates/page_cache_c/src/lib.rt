@@ -15,19 +15,22 @@
 
 ghost use Rattle.memory.specs.Memory.{memory_of, memories};
 ghost use Rattle.contract.specs.Called.{lent};
+ghost use Rattle.apply.specs.Applied.{Applied};
 ghost use Rattle.page_cache_c.specs.Exports.{Makes, Tests, Lists, Applies};
 
+use answer::Answered;
 use apply::apply;
-use c_numbers::{listing_code, put_answer, put_answered, put_created, read_head};
+use c_numbers::{HEAD, listing_code, put_answer, put_answered, put_created, read_head};
 use creating::create;
+use listing::list_pages;
+use memory::{LentMemory, LentView};
+use page::PageCache;
 use soundness::is_sound;
-
-// The numbers of a head: capacity, held, hand, spill switch, estimate.
-const HEAD: usize = 5;
 
 // The numbers of an answer: code, value, passed, held, the hand's key or none, listed.
 const ANSWER: usize = 6;
 
+// What a test answers. C has no enum: these are document 01's numbers.
 const SOUND: u32 = 0;
 
 const NOT_SOUND: u32 = 1;
@@ -47,11 +50,16 @@ pub extern "C" fn pc_create(
 ) -> u32
     ensures { let m = memories slots by_key by_handle marks in Makes capacity m.entry head.old m.exit head.new result }
 {
-    if head.len() != HEAD {
+    let Some(head) = head.as_mut_array::<HEAD>() else {
         return BAD_LENGTHS;
-    }
-    let made = create(slots, by_key, by_handle, marks, capacity);
-    put_created(head, made)
+    };
+    let mut memory = LentMemory {
+        slots,
+        by_key,
+        by_handle,
+        marks,
+    };
+    put_created(head, create(&mut memory, capacity))
 }
 
 // Whether the memory is sound: 0 if it is, 1 if not.
@@ -65,10 +73,16 @@ pub extern "C" fn pc_test(
 ) -> u32
     ensures { Tests (memory_of slots.now by_key.now by_handle.now marks.now) head.now result }
 {
-    if head.len() != HEAD {
+    let Some(head) = head.as_array::<HEAD>() else {
         return BAD_LENGTHS;
-    }
-    if is_sound(slots, by_key, by_handle, marks, read_head(head)) {
+    };
+    let memory = LentView {
+        slots,
+        by_key,
+        by_handle,
+        marks,
+    };
+    if is_sound(memory, read_head(head)) {
         SOUND
     } else {
         NOT_SOUND
@@ -87,11 +101,16 @@ pub extern "C" fn pc_list(
 ) -> u32
     ensures { Lists (memory_of slots.now by_key.now by_handle.now marks.now) head.now list.old list.new result }
 {
-    if head.len() != HEAD {
+    let Some(head) = head.as_array::<HEAD>() else {
         return BAD_LENGTHS;
-    }
-    let listed = listing::list_numbers(slots, by_key, by_handle, marks, read_head(head), list);
-    listing_code(listed)
+    };
+    let memory = LentView {
+        slots,
+        by_key,
+        by_handle,
+        marks,
+    };
+    listing_code(list_pages(memory, read_head(head), list))
 }
 
 // Carries out what 32 bytes ask for. The answer's numbers are written, and its code is handed back too.
@@ -108,13 +127,13 @@ pub extern "C" fn pc_apply(
 ) -> u32
     ensures { let m = memories slots by_key by_handle marks in Applies bytes.now (lent m.entry list.old) head.old answer.old (lent m.exit list.new) head.new answer.new result }
 {
-    if head.len() != HEAD {
+    let Some(head) = head.as_mut_array::<HEAD>() else {
         return BAD_LENGTHS;
-    }
+    };
     if answer.len() != ANSWER {
         return BAD_LENGTHS;
     }
-    let answered = apply(
+    let answered = apply_to(
         bytes,
         slots,
         by_key,
@@ -125,4 +144,26 @@ pub extern "C" fn pc_apply(
     );
     put_answered(head, answered);
     put_answer(answer, slots, answered)
+}
+
+// The same for a head that was read. The slices are C's, one by one, and `pc_apply` reads the slots again when this has ended: so the
+// memory is put together here, and is gone with it.
+fn apply_to(
+    bytes: &[u8],
+    slots: &mut [u64],
+    by_key: &mut [u32],
+    by_handle: &mut [u32],
+    marks: &mut [u64],
+    list: &mut [u32],
+    head: PageCache,
+) -> Answered
+    ensures { let m = memories slots by_key by_handle marks in Applied bytes.now (lent m.entry list.old) head (lent m.exit list.new) result }
+{
+    let mut memory = LentMemory {
+        slots,
+        by_key,
+        by_handle,
+        marks,
+    };
+    apply(bytes, &mut memory, list, head)
 }

@@ -1,85 +1,67 @@
 // Which pages are asked for.
-ghost use Rattle.std.specs.Prelude.{◌≤◌};
+ghost use Rattle.std.specs.Prelude.{◌≤◌, IfSome};
 
 use std::env::Env;
-use text::{ROOM, say};
 
 // 'The maximum page number is 4294967294'.
 const LAST_PAGE: u32 = 4294967294;
 
+// The longest page number that is read: no argument is longer.
+const NUMBER: usize = 131072;
+
 // The pages to check, as far as the file has them.
 #[derive(Clone, Copy)]
 pub struct Pages {
-    // From 1 on; 0 if the words are bad, and then a message has been written.
     pub first: u32,
     pub last: u32,
+    ghost from_one: { 1 ≤ first },
+    ghost to_last: { last ≤ 4294967294 },
 }
 
-// All pages, or the one that the second word names.
-pub fn asked(env: &impl Env, stderr: &impl Print) -> Pages
-    ensures { result.last ≤ 4294967294 }
-{
-    let words = input::word_count(env, 4);
-    if words == 2 {
-        return Pages {
+// All pages, or the one that the second word names. None if the words are bad, and then a message has been written.
+pub fn asked(env: &impl Env, stderr: &impl Print) -> Option<Pages> {
+    match input::word_count(env, 4) {
+        2 => Some(Pages {
             first: 1,
             last: LAST_PAGE,
-        };
+        }),
+        3 => asked_page(env, stderr),
+        _ => {
+            let _ = stderr.write_all(b"usage: page_check DATABASE [PAGE]\n");
+            None
+        }
     }
-    if words == 3 {
-        return asked_page(env, stderr);
-    }
-    say(stderr, b"usage: page_check DATABASE [PAGE]\n");
-    Pages { first: 0, last: 0 }
 }
 
-fn asked_page(env: &impl Env, stderr: &impl Print) -> Pages
-    ensures { result.last ≤ 4294967294 }
-{
-    let mut word = [0u8; ROOM];
+fn asked_page(env: &impl Env, stderr: &impl Print) -> Option<Pages> {
+    let mut word = [0u8; NUMBER];
     // One that is too long is no number, and isn't said again.
     let length = env.arg(2, &mut word).unwrap_or(0);
-    let number = page_number(&word[..length]);
-    if number == 0 {
-        say(stderr, b"page_check: bad page number: ");
-        say(stderr, &word[..length]);
-        say(stderr, b"\n");
-    }
-    Pages {
+    let word = &word[..length];
+    let Some(number) = page_number(word) else {
+        // The word need not be text.
+        let _ = stderr.print("page_check: bad page number: ");
+        let _ = stderr.write_all(word);
+        let _ = stderr.print("\n");
+        return None;
+    };
+    Some(Pages {
         first: number,
         last: number,
-    }
+    })
 }
 
-// The page number that a word's decimal digits say, or 0 if it says none.
-fn page_number(word: &[u8]) -> u32
-    ensures { result ≤ 4294967294 }
+// The page number that a word's decimal digits say. Not `parse`, which takes a sign before them.
+fn page_number(word: &[u8]) -> Option<u32>
+    ensures { IfSome result (λ n. (1 ≤ n) × (n ≤ 4294967294)) }
 {
-    let mut number: u64 = 0;
-    let mut i = 0;
-    while i < word.len() {
-        let digit = digit_value(word[i]);
-        if digit > 9 {
-            return 0;
+    let mut number = 0u32;
+    for byte in word {
+        let digit = char::from(*byte).to_digit(10)?;
+        number = number.checked_mul(10)?.checked_add(digit)?;
+        if number > LAST_PAGE {
+            return None;
         }
-        number = number * 10 + digit;
-        if number > LAST_PAGE as u64 {
-            return 0;
-        }
-        i += 1;
     }
-    number as u32
-}
-
-// What a decimal digit is worth; 10 if it is none.
-fn digit_value(byte: u8) -> u64
-    ensures { result ≤ 10 }
-{
-    if byte < b'0' {
-        return 10;
-    }
-    if byte > b'9' {
-        return 10;
-    }
-    (byte - b'0') as u64
+    if number == 0 { None } else { Some(number) }
 }

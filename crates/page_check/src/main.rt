@@ -11,11 +11,12 @@
 //     yes: 1
 //     no: 2
 //
-//     asking.rt     which pages are asked for
-//     checking.rt   the header, and the way to the first page
-//     listing.rt    the pages one after another
-//     lines.rt      what is written of each
-//     messages.rt   why there is nothing to write
+//     asking.rt         which pages are asked for
+//     database_file.rt  the header, and the way to the pages
+//     listing.rt        the pages one after another
+//     totals.rt         how many they are
+//     lines.rt          what is written of them
+//     failure.rt        why there is nothing to write, or no more
 //
 // What can be wrong with a header is in the contract of `database_header`, and what with a page in that of `btree_check`. What is here reads
 // and writes, one page at a time, so that a database of any length takes the same memory. A page that the file's end cuts off fails by
@@ -24,52 +25,52 @@
 #![tactic(auto)]
 
 mod asking;
-mod checking;
+mod database_file;
+mod failure;
 mod lines;
 mod listing;
-mod messages;
-
-ghost use Rattle.std.specs.Prelude.{◌≤◌, length};
+mod totals;
 
 use asking::Pages;
+use database_file::DatabaseFile;
+use failure::Failure;
 use std::env::Env;
+use std::io::{Error, Read, Seek};
 use std::rt::Files;
-use text::{ROOM, put_words};
+use text::{Output, say};
 
-// Where the file's name begins in a message.
-const NAME: usize = 12;
+// The longest name of a file: with `page_check: ` before it, 131,072 bytes.
+const NAME: usize = 131060;
 
 fn main(rt: HostRuntime) {
     let stderr = rt.stderr();
-    let pages = asking::asked(&rt, &stderr);
-    if pages.first == 0 {
-        return;
+    if let Some(pages) = asking::asked(&rt, &stderr) {
+        check_argument(&rt, &stderr, pages);
     }
-    let mut says = message();
-    check_argument(&rt, &stderr, &mut says, pages);
 }
 
-// What a message begins with, and room for the file's name after it.
-fn message() -> [u8; ROOM] {
-    let mut says = [0u8; ROOM];
-    put_words(&mut says, 0, b"page_check: ");
-    says
+// The database that the argument names.
+fn check_argument(rt: &(impl Env + Files + Print), stderr: &impl Print, pages: Pages) {
+    let mut name = [0u8; NAME];
+    let (length, opened) = input::open_argument(rt, &mut name);
+    let mut output = Output::new(rt);
+    let checked = check(opened, &mut output, pages);
+    match checked {
+        // There is nobody to tell.
+        Ok(()) | Err(Failure::Unwritten) => {}
+        Err(failure) => say(stderr, "page_check", &name[..length], failure),
+    }
+    // What is left of it, after the message: not the sizes alone, if there is no such page.
+    if !matches!(checked, Err(Failure::NoSuchPage(_))) {
+        let _ = output.flush();
+    }
 }
 
-// The database that the argument names. `says` gets its name.
-fn check_argument(
-    rt: &(impl Env + Files + Print),
-    stderr: &impl Print,
-    says: &mut [u8],
+fn check(
+    opened: Result<impl Read + Seek + Drop, Error>,
+    output: &mut Output<'_, impl Print>,
     pages: Pages,
-)
-    requires in_bounds { 12 ≤ length says.old }
-    requires le_first { 1 ≤ pages.first }
-    requires last_bound { pages.last ≤ 4294967294 }
-{
-    let named = input::open_argument(rt, stderr, says, NAME);
-    let end = named.end;
-    if let Some(mut file) = named.open {
-        checking::check(rt, stderr, &mut file, &says[..end], pages);
-    }
+) -> Result<(), Failure> {
+    let mut file = DatabaseFile::open(opened?)?;
+    listing::check_pages(&mut file, output, pages)
 }

@@ -10,7 +10,5 @@ ghost use Rattle.page_size.specs.PageSize.{is_page_size};
 pub fn is_page_size(n: u32) -> bool
     ensures { result ≡ is_page_size n }
 {
-    let small = (n == 512) | (n == 1024) | (n == 2048) | (n == 4096);
-    let large = (n == 8192) | (n == 16384) | (n == 32768) | (n == 65536);
-    small | large
+    matches!(n, 512 | 1024 | 2048 | 4096 | 8192 | 16384 | 32768 | 65536)
 }

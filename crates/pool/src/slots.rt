@@ -1,4 +1,7 @@
 // Slots: four words each, and the entry that they hold. Only `load`, `store` and `is_blank` know where a field stands.
+//
+// That a slot lies in the pool is a clause of each function here and above, and no type: a type of slot and slots would keep the slots
+// borrowed from one load to the next, and the links of a page lead from slot to slot.
 ghost use Rattle.std.specs.Prelude.{◌≡◌, ◌<◌, length, get_or, set};
 ghost use Rattle.pool.specs.Slots.{entries, blank};
 ghost use Rattle.pool.specs.Decides.{Decides};
@@ -68,14 +71,7 @@ pub fn store(slots: &mut [u64], s: Slot, e: PageCacheEntry)
 pub fn blank_entry() -> PageCacheEntry
     ensures { result ≡ blank }
 {
-    let page = PageRecord {
-        flags: 0,
-        pins: 0,
-        holders: 0,
-        cells: 0,
-        frame: 0,
-    };
-    PageCacheEntry::new(PageCacheKey(0), PageHandle(0), page)
+    PageCacheEntry::new(PageCacheKey(0), PageHandle(0), PageRecord::default())
 }
 
 // Whether the slot is all zero. A held slot may be so too: only the marks say which slots are free.

@@ -1,4 +1,4 @@
-// What the arguments ask for.
+// What the arguments ask for. An enum and no closure: what is done for the third is no more than a message.
 use std::env::Env;
 
 #[derive(Clone, Copy)]
@@ -12,33 +12,15 @@ pub enum Asked {
 }
 
 pub fn from_arguments(env: &impl Env) -> Asked {
-    let count = input::word_count(env, 3);
-    if count < 2 {
-        return Asked::Answers;
-    }
-    if count > 2 {
-        return Asked::Other;
-    }
-    let mut word = [0u8; 8];
-    let length = env.arg(1, &mut word).unwrap_or(0);
-    if length != 7 {
-        return Asked::Other;
-    }
-    if is_state(&word) {
-        Asked::States
-    } else {
-        Asked::Other
+    match input::word_count(env, 3) {
+        0 | 1 => Asked::Answers,
+        2 if is_state(env) => Asked::States,
+        _ => Asked::Other,
     }
 }
 
-fn is_state(word: &[u8; 8]) -> bool {
-    let state = b"--state";
-    let mut i = 0;
-    while i < 7 {
-        if word[i] != state[i] {
-            return false;
-        }
-        i += 1;
-    }
-    true
+fn is_state(env: &impl Env) -> bool {
+    let mut word = [0u8; 8];
+    let length = env.arg(1, &mut word).unwrap_or(0);
+    matches!(&word[..length], b"--state")
 }

@@ -5,9 +5,9 @@
 //     replay --state    after each, a line with the pool: capacity, spill switch, estimate, held, and each page in sweep order
 //
 //     asking.rt   what the arguments ask for
-//     sizes.rt    the pool's sizes, and the head of a cache that was not created
+//     cache.rt    the cache that the records are applied to, and its memory
 //     block.rt    the records of a block of input, one after another
-//     line.rt     the line of an answer
+//     line.rt     the line of a record
 //     state.rt    the line of a pool
 //
 // What a record does is the contract of `apply`. What is here reads and writes. A short last record writes `bad`, and
@@ -16,49 +16,36 @@
 
 mod asking;
 mod block;
+mod cache;
 mod line;
-mod sizes;
 mod state;
 
 use asking::Asked;
+use cache::Cache;
 use std::io::Read;
+use text::Output;
 
 fn main(rt: HostRuntime) {
     let mut stdin = rt.stdin();
     match asking::from_arguments(&rt) {
         Asked::Answers => replay(&mut stdin, &rt, false),
         Asked::States => replay(&mut stdin, &rt, true),
-        Asked::Other => text::say(&rt.stderr(), b"usage: replay [--state] < RECORDS\n"),
+        Asked::Other => {
+            let _ = rt
+                .stderr()
+                .write_all(b"usage: replay [--state] < RECORDS\n");
+        }
     }
 }
 
-// Block after block. `turns` counts down so that the loop is known to end; no input is that long.
+// Block after block, up to the last one, or until the output can't be written: there is nobody to tell. No input has as many blocks as
+// the range has numbers.
 fn replay(stdin: &mut impl Read, stdout: &impl Print, states: bool) {
-    let mut slots = [0u64; sizes::WORDS];
-    let mut by_key = [0u32; sizes::SLOTS];
-    let mut by_handle = [0u32; sizes::SLOTS];
-    let mut marks = [0u64; sizes::MARKS];
-    let mut list = [0u32; sizes::SLOTS];
-    let mut out = [0u8; text::ROOM];
-    let mut head = sizes::no_cache();
-    let mut turns = u64::MAX;
-    while turns > 0 {
-        let left = block::replay(
-            stdin,
-            stdout,
-            &mut slots,
-            &mut by_key,
-            &mut by_handle,
-            &mut marks,
-            &mut list,
-            &mut out,
-            head,
-            states,
-        );
-        if !left.more {
+    let mut cache = Cache::new();
+    let mut output = Output::new(stdout);
+    for _ in 0..u64::MAX {
+        let Ok(true) = block::replay(stdin, &mut output, &mut cache, states) else {
             return;
-        }
-        head = left.head;
-        turns -= 1;
+        };
     }
 }

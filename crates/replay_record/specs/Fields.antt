@@ -1,8 +1,6 @@
 -- The 32 bytes of a replay record, field by field (01, "The replay program").
-use Rattle.std.specs.Prelude.{◌≡◌, Bool, cond, not, ◌||◌, List, ℕ, zero, suc, ◌+◌, ◌*◌, ◌^◌, ◌≤◌, ◌<◌, eqb, ltb, length, get_or}
+use Rattle.std.specs.Prelude.{◌≡◌, Bool, cond, not, ◌||◌, List, ℕ, zero, suc, ◌+◌, ◌*◌, ◌^◌, ◌≤◌, ◌<◌, eqb, ltb, length, get_or, Option, Some, None}
 use Rattle.replay_record.specs.declared.record.Record.{Record}
-use Rattle.replay_record.specs.declared.record.Decoded.{Decoded}
-use Rattle.replay_record.specs.declared.record.Decoded.TheVariants.{Bad, Good}
 
 -- ── numbers ──────────────────────────────────────────────────────────────────
 -- little-endian: the number of `width` bytes from place `at` on
@@ -37,5 +35,5 @@ abbrev pub bad : List ℕ → Bool
 bad b = ltb 1 (get_or b 15 0) || not (eqb (number 8 b 24) 0)
 
 -- a record is 32 bytes
-abbrev pub decoded : List ℕ → Decoded
-decoded b = cond (not (eqb (length b) 32) || bad b) Bad (Good (fields b))
+abbrev pub decoded : List ℕ → Option Record
+decoded b = cond (not (eqb (length b) 32) || bad b) None (Some (fields b))

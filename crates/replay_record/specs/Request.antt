@@ -1,9 +1,7 @@
 -- What a replay record asks for (01, "The replay program").
-use Rattle.std.specs.Prelude.{List, [], ◌∷◌, ℕ, get_or}
+use Rattle.std.specs.Prelude.{List, [], ◌∷◌, ℕ, get_or, Option, Some, None}
 use Rattle.model.specs.Call.{Call, plain, forced, upsert, insert, lookup, peek, release, delete, resize, truncate, remove_frames, clear, notify_dirty, notify_spilled, write, spill, evict_one, switch}
 use Rattle.replay_record.specs.declared.record.Record.{Record}
-use Rattle.replay_record.specs.declared.record.Decoded.{Decoded}
-use Rattle.replay_record.specs.declared.record.Decoded.TheVariants.{Bad, Good}
 
 pub data Request : Type 0 where
   -- nothing that exists: answer 17
@@ -42,6 +40,6 @@ abbrev pub request_of : Record → (places : ℕ) → Request
 request_of r places = get_or (operations r places) r.operation none
 
 -- and so are bytes that are no record
-abbrev pub request_in : Decoded → (places : ℕ) → Request
-request_in Bad places = none
-request_in (Good r) places = request_of r places
+abbrev pub request_in : Option Record → (places : ℕ) → Request
+request_in None places = none
+request_in (Some r) places = request_of r places

@@ -11,4 +11,4 @@
 mod number;
 mod record;
 
-pub use record::{Decoded, Record, decode};
+pub use record::{Record, decode};

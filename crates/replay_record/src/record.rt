@@ -7,7 +7,8 @@ use page::{PageCacheKey, PageHandle, PageRecord};
 
 #[derive(Clone, Copy)]
 pub struct Record {
-    // Which call it is: 0 create to 17 release. No call has a number above 17.
+    // Which call it is: 0 create to 17 release. No call has a number above 17. A number and no enum, since a record with another one is a
+    // record too: `decoded` says so, and crate dispatch answers it.
     pub operation: u8,
     // Touch (peek), dirty too (clear), on (spill switch).
     pub option: bool,
@@ -18,25 +19,16 @@ pub struct Record {
     pub number: u64,
 }
 
-#[derive(Clone, Copy)]
-pub enum Decoded {
-    Bad,
-    Good(Record),
-}
-
 const LENGTH: usize = 32;
 
-// What the bytes say.
-pub fn decode(bytes: &[u8]) -> Decoded
+// What the bytes say, or None if they are no record.
+pub fn decode(bytes: &[u8]) -> Option<Record>
     ensures { result ≡ decoded bytes.now }
 {
-    if bytes.len() != LENGTH {
-        return Decoded::Bad;
+    if bytes.len() != LENGTH || is_bad(bytes) {
+        return None;
     }
-    if is_bad(bytes) {
-        return Decoded::Bad;
-    }
-    Decoded::Good(read(bytes))
+    Some(read(bytes))
 }
 
 // Whether 32 bytes are no record: an option above 1, or a tail that is not zero.

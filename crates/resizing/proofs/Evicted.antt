@@ -1,4 +1,4 @@
--- One eviction that is asked for comes to the model's: with nothing held there is none, and otherwise it is one sweep.
+-- One eviction that is asked for comes to the model's: it is one sweep, if something is held.
 use mathlib.Core.Path.{◌≡◌, refl, sym, ap, ◌∙◌}
 use mathlib.Core.Bool.{true, false}
 use mathlib.Core.List.{List, ◌∷◌}
@@ -13,22 +13,19 @@ use Rattle.page.specs.declared.names.PageHandle.{PageHandle}
 use Rattle.model.specs.Cache.{Cache}
 use Rattle.model.specs.Rooms.{Room, sweep_of, evicted, enough, sweeping}
 use Rattle.model.specs.Rules.{on_evict_one}
-use Rattle.model.proofs.Evictions.{evict_none, evict_some}
+use Rattle.model.proofs.Evictions.{evict_some}
 use Rattle.memory.specs.Memory.{Memory}
 use Rattle.memory.specs.Holds.{Holds}
 use Rattle.memory.proofs.OnceKept.{holds_held}
-use Rattle.answer.specs.Answer.{plainly, MatchesOutcome}
-use Rattle.answer.specs.declared.answer.Answer.TheVariants.{Done, Full, Empty}
-use Rattle.answer.proofs.Steps.{comes_as, plain_comes}
+use Rattle.answer.specs.Answer.{MatchesOutcome}
+use Rattle.answer.specs.declared.answer.Answer.TheVariants.{Done, Full}
+use Rattle.answer.proofs.Steps.{comes_as}
 use Rattle.eviction.specs.Evict.{Takes, Refuses}
 use Rattle.eviction.specs.Room.{Made}
 use Rattle.eviction.proofs.Step.{took_is_the_sweep, full_is_the_sweep}
 use Rattle.resizing.proofs.Following.{made_comes}
 
 module _ {m : Memory} {head : PageCache} {c : Cache} (H : Holds m head c) {list : List ℕ} where
-  pub evict_empty : head.held ≡ 0 → MatchesOutcome (on_evict_one c) list m list (plainly Empty head)
-  evict_empty q = comes_as (evict_none c (holds_held H ∙ q)) (plain_comes Empty H list)
-
   module _ (some_held : 1 ≤ head.held) {m' : Memory} {n : ℕ} where
     -- none may go
     pub evict_full : Refuses c m' n head → MatchesOutcome (on_evict_one c) list m' list (record { answer = Full; passed = n; listed = 0; head = head })

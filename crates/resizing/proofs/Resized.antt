@@ -5,7 +5,7 @@ use mathlib.Core.List.{List}
 use Prim.Native.Nat.{ℕ, ◌^◌, ◌≤◌, ◌<◌}
 use native.Mathlib.Omega.{arith}
 use lib.ListN.{length}
-use borrow.Author.Tests.{eq-eqb, ne_eqb}
+use borrow.Author.Tests.{ne_eqb}
 use Rattle.page.specs.declared.cache.PageCache.{PageCache}
 use Rattle.model.specs.Cache.{Cache, held_in, with_capacity}
 use Rattle.model.specs.Call.{Outcome, answer, resize}
@@ -13,6 +13,7 @@ use Rattle.model.specs.Rooms.{Room, evict_to, following}
 use Rattle.model.specs.Rules.{on_resize, resized}
 use Rattle.model.specs.Step.{act, step}
 use Rattle.model.proofs.KeptRooms.{evictions_few}
+use Rattle.model.proofs.KeptSize.{evictions_size}
 use Rattle.memory.specs.Memory.{Memory}
 use Rattle.memory.specs.Holds.{Holds}
 use Rattle.memory.proofs.OnceKept.{holds_fits}
@@ -63,10 +64,6 @@ ending capacity room full =
     following room (elim full [ true ↦ answer 10 0 room.cache | false ↦ answer 0 0 (with_capacity capacity room.cache) ])
 
 module _ (capacity : ℕ) {m : Memory} {head : PageCache} {c : Cache} (H : Holds m head c) where
-  -- to the same capacity
-  pub resize_same : {list : List ℕ} → capacity ≡ head.capacity → MatchesOutcome (on_resize capacity c) list m list (plainly (Done 0) head)
-  resize_same {list} same = comes_as (ap {B = Outcome} (rule capacity c) (eq-eqb capacity c.capacity (same ∙ H.headed.capacity))) (plain_comes (Done 0) H list)
-
   module _ {m' : Memory} {list list' : List ℕ} {r : code.Room} (made : Made (evict_to capacity c) list 0 m' list' r) where
     -- no more went than were held
     pub few_listed : r.listed < 2 ^ 32
@@ -75,12 +72,15 @@ module _ (capacity : ℕ) {m : Memory} {head : PageCache} {c : Cache} (H : Holds
     evictions_ended : (full : Bool) → r.full ≡ full → resized capacity (evict_to capacity c) ≡ ending capacity (evict_to capacity c) full
     evictions_ended full q = ap {B = Outcome} (ending capacity (evict_to capacity c)) (sym made.full ∙ q)
 
-    -- to another one: evictions, and the capacity only if they were enough
-    pub resize_other : (capacity ≡ head.capacity → ⊥) → capacity ≤ length m'.by_key
+    -- to another one: evictions, and the capacity only if they were enough. There are as many slots as before
+    pub resize_other : (capacity ≡ head.capacity → ⊥) → capacity ≤ length m.by_key
         → MatchesOutcome (on_resize capacity c) list m' list' (resized_as r.full r capacity)
     resize_other other within =
         comes_as (ap {B = Outcome} (rule capacity c) (ne_eqb capacity c.capacity (λ q. other (q ∙ sym H.headed.capacity)))) (go r.full refl)
       where
+        within' : capacity ≤ length m'.by_key
+        within' = omega (arith, within, H.lengths.by_key, made.holds.lengths.by_key, evictions_size (held_in c) capacity c)
+
         go : (full : Bool) → r.full ≡ full → MatchesOutcome (resized capacity (evict_to capacity c)) list m' list' (resized_as full r capacity)
         go true q = comes_as (evictions_ended true q) (made_comes PendingEvictions made made.holds)
-        go false q = comes_as (evictions_ended false q) (made_comes (Done 0) made (holds_capacity made.holds within))
+        go false q = comes_as (evictions_ended false q) (made_comes (Done 0) made (holds_capacity made.holds within'))

@@ -14,6 +14,8 @@ pub fn next(slots: &[u64], s: Slot) -> Slot
     load(slots, s).next
 }
 
+// This and `set_prev` are each its definition in specs/Links.antt. One function for both would be told at each call, by a closure, which
+// link to set.
 fn set_next(slots: &mut [u64], s: Slot, next: Slot)
     requires { s.0 < length (entries slots.old) }
     ensures { entries slots.new ≡ set_next (entries slots.old) s.0 next.0 }

@@ -1,9 +1,7 @@
 -- A sorted index over a column of names, where slot s has the name `get_or col s 0` (01, "Memory, pages and numbers": the
 -- index lists held slots by ascending key; unused places are zero).
-use Rattle.std.specs.Prelude.{◌≡◌, List, [], ◌∷◌, ◌++◌, ℕ, suc, ◌+◌, ◌-◌, ◌≤◌, ◌<◌, length, get_or, take, drop}
+use Rattle.std.specs.Prelude.{◌≡◌, List, [], ◌∷◌, ◌++◌, ℕ, suc, ◌+◌, ◌-◌, ◌≤◌, ◌<◌, length, get_or, take, drop, Result, Ok, Err}
 use Rattle.page.specs.All.{All}
-use Rattle.sorted_index.specs.declared.search.Spot.{Spot}
-use Rattle.sorted_index.specs.declared.search.Spot.TheVariants.{Here, Gap}
 
 -- each slot of the list has a name, and the names ascend strictly
 abbrev pub Asc : List ℕ → List ℕ → Type 0
@@ -32,9 +30,10 @@ pub record Miss (col order : List ℕ) (n x at : ℕ) : Type 0 where
   pub below : (k : ℕ) → k < at → name_at col order k < x
   pub above : (k : ℕ) → at ≤ k → k < n → x < name_at col order k
 
-abbrev pub FoundSpot : List ℕ → List ℕ → ℕ → ℕ → Spot → Type 0
-FoundSpot col order n x (Here at) = Hit col order n x at
-FoundSpot col order n x (Gap at) = Miss col order n x at
+-- the answer is the place of x, or where it would go
+abbrev pub FoundSpot : List ℕ → List ℕ → ℕ → ℕ → Result ℕ ℕ → Type 0
+FoundSpot col order n x (Ok at) = Hit col order n x at
+FoundSpot col order n x (Err at) = Miss col order n x at
 
 -- ── an insertion and a removal ───────────────────────────────────────────────
 -- the list with s put in before place `at`

@@ -5,7 +5,7 @@ ghost use Rattle.sorted_index.specs.Names.{names};
 ghost use Rattle.sorted_index.specs.Index.{Index, CanInsert, CanRemove};
 ghost use Rattle.sorted_index.specs.Listed.{HasRoom, Enlisted, EnlistedAt, Unlisted, UnlistedAt};
 
-use crate::search::{By, Spot, find, gap};
+use crate::search::{By, find, gap};
 use crate::shift::{insert_at, remove_at};
 use page::Slot;
 
@@ -18,7 +18,8 @@ pub fn enlist(order: &mut [u32], slots: &[u64], by: By, n: usize, x: u32, s: Slo
     enlist_at(order, n, at, s);
 }
 
-// The same if a search has found the gap, and the index has not changed since.
+// The same if a search has found the gap, and the index has not changed since. This and `unlist_at` speak of slots and names, where
+// shift.rt speaks of numbers in a slice.
 pub fn enlist_at(order: &mut [u32], n: usize, at: usize, s: Slot)
     requires { CanInsert order.old n at }
     ensures { EnlistedAt order.old n at s.0 order.new }
@@ -31,7 +32,7 @@ pub fn unlist(order: &mut [u32], slots: &[u64], by: By, n: usize, x: u32)
     requires { Index (names by (entries slots.now)) order.old n }
     ensures { Unlisted (names by (entries slots.now)) order.old n x order.new }
 {
-    let Spot::Here(at) = find(order, slots, by, n, x) else {
+    let Ok(at) = find(order, slots, by, n, x) else {
         return;
     };
     unlist_at(order, n, at);

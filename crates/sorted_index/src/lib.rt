@@ -6,7 +6,7 @@
 // An order holds slots and no names: a name is read from the slot's entry. So the same code serves both indexes, and `By` says
 // which name counts. Slot 0 may be held, so a 0 doesn't say where the used part ends: the caller knows n.
 //
-//     search.rt     By, Spot, name, find: the place of a name, or the gap that it would go into, by halving; gap: of a new name
+//     search.rt     By, name, find: the place of a name, or the gap that it would go into, by halving; gap: of a new name
 //     shift.rt      insert_at, remove_at: a place is opened or closed, and what stands above it moves by one
 //     enlisting.rt  enlist, unlist: a slot comes in or goes out. The forms with _at are told the place, and search nothing
 //
@@ -21,5 +21,5 @@ mod search;
 mod shift;
 
 pub use enlisting::{enlist, enlist_at, unlist, unlist_at};
-pub use search::{By, Spot, find, gap, name};
+pub use search::{By, find, gap, name};
 pub use shift::{insert_at, remove_at};

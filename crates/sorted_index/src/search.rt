@@ -7,18 +7,11 @@ ghost use Rattle.sorted_index.specs.Listed.{GapFor};
 
 use page::Slot;
 
-// The name that an index goes by.
+// The name that an index goes by. A value and no closure, since contracts speak of the column of names that it picks (`names`).
 #[derive(Clone, Copy)]
 pub enum By {
     Key,
     Handle,
-}
-
-// Where a name stands in an index, or where it would go: before that place stand the lower names, from there on the higher.
-#[derive(Clone, Copy)]
-pub enum Spot {
-    Here(usize),
-    Gap(usize),
 }
 
 pub fn name(slots: &[u64], s: Slot, by: By) -> u32
@@ -32,8 +25,12 @@ pub fn name(slots: &[u64], s: Slot, by: By) -> u32
     }
 }
 
-// The spot of the name x in an index of n slots.
-pub fn find(order: &[u32], slots: &[u64], by: By, n: usize, x: u32) -> Spot
+// Where the name x stands in an index of n slots. If no slot has it, where it would go: before that place stand the lower names, from
+// there on the higher.
+//
+// By hand: the library's `binary_search_by` may call its closure with any number, and a name can be read of a slot of the pool alone, so that
+// the closure would have to test each slot again. The index is a slice with its n beside it, since the zeros behind it count too (`Index`).
+pub fn find(order: &[u32], slots: &[u64], by: By, n: usize, x: u32) -> Result<usize, usize>
     requires { Index (names by (entries slots.now)) order.now n }
     ensures { FoundSpot (names by (entries slots.now)) order.now n x result }
 {
@@ -53,10 +50,10 @@ pub fn find(order: &[u32], slots: &[u64], by: By, n: usize, x: u32) -> Spot
         let s = order[lo];
         let y = name(slots, Slot(s), by);
         if y == x {
-            return Spot::Here(lo);
+            return Ok(lo);
         }
     }
-    Spot::Gap(lo)
+    Err(lo)
 }
 
 // The gap that a name goes into which no slot of the index has.
@@ -65,7 +62,7 @@ pub fn gap(order: &[u32], slots: &[u64], by: By, n: usize, x: u32) -> usize
     ensures { GapFor (names by (entries slots.now)) order.now n x result }
 {
     match find(order, slots, by, n, x) {
-        Spot::Here(at) => at,
-        Spot::Gap(at) => at,
+        Ok(at) => at,
+        Err(at) => at,
     }
 }

@@ -9,12 +9,7 @@ pub fn insert_at(order: &mut [u32], n: usize, at: usize, slot: Slot)
     requires { CanInsert order.old n at }
     ensures { Inserted order.old n at slot.0 order.new }
 {
-    let mut i = n;
-    while at < i {
-        let v = order[i - 1];
-        order[i] = v;
-        i -= 1;
-    }
+    order.copy_within(at..n, at + 1);
     order[at] = slot.0;
 }
 
@@ -23,12 +18,6 @@ pub fn remove_at(order: &mut [u32], n: usize, at: usize)
     requires { CanRemove order.old n at }
     ensures { Removed order.old n at order.new }
 {
-    let last = n - 1;
-    let mut i = at;
-    while i < last {
-        let v = order[i + 1];
-        order[i] = v;
-        i += 1;
-    }
-    order[last] = 0;
+    order.copy_within(at + 1..n, at);
+    order[n - 1] = 0;
 }

@@ -3,16 +3,17 @@ use mathlib.Core.Path.{◌≡◌, refl, sym}
 use mathlib.Core.Bool.{Bool, true, false}
 use mathlib.Core.Logic.{⊎_elim}
 use mathlib.Core.List.{List}
-use Prim.Native.Nat.{ℕ, zero, suc, ◌+◌, ◌≤◌, ◌<◌}
+use Prim.Native.Nat.{ℕ, zero, suc, ◌+◌, ◌-◌, ◌≤◌, ◌<◌}
 use native.Mathlib.Nat.{eq-or-lt_of_le, le_of_suc-le-suc}
 use native.Mathlib.Numerals.{add-one}
 use native.Mathlib.Omega.{arith}
-use lib.ListN.{length, get_or}
+use lib.ListN.{length, get_or, drop, length-drop}
+use Rattle.std.proofs.lemmas.List.{get_or-drop}
 use Rattle.free_marks.specs.Marks.{bit_at}
 use Rattle.pool.specs.Decides.{Decides}
-use Rattle.pool.proofs.Decides.{decides_yes, decides_no}
+use Rattle.pool.proofs.Decides.{decides_yes, decides_no, decides_as}
 use Rattle.sorted_index.specs.Index.{name_at}
-use Rattle.soundness.specs.Checks.{Taken, Ordered}
+use Rattle.soundness.specs.Checks.{Taken, Ordered, Clear, IndexGood}
 use Rattle.free_marks.proofs.Marking.{bit_limit}
 use Rattle.soundness.proofs.Bits.{free_marked, held_unmarked}
 
@@ -59,3 +60,13 @@ module _ {col order m : List ℕ} {least i : ℕ} (t : OrderedTo col order m lea
           where
             here : Taken m (length order) (get_or order i 0)
             here = record { inside = inside; held = held_unmarked f (bit_limit m (get_or order i 0)) e }
+
+-- an index is in order, and the places behind it are zero: the test of these says whether it is good
+pub index_decides : {col order m : List ℕ} {n : ℕ} {clear : Bool} → n ≤ length order → Ordered col order m n → Decides clear (Clear (drop n order) 0)
+    → Decides clear (IndexGood col order m n)
+index_decides {order = order} {n = n} fits ordered d = decides_as d
+    (λ zero. record { ordered = ordered; clear = λ i g h. rw (← (here i g)) (zero (i - n) (omega arith) (rw length-drop (omega arith))) })
+    (λ good. λ k _ h. rw get_or-drop (good.clear (n + k) (omega arith) (omega (arith, rw length-drop at h))))
+  where
+    here : (i : ℕ) → n ≤ i → get_or (drop n order) (i - n) 0 ≡ get_or order i 0
+    here i g = let same : n + (i - n) ≡ i = omega arith in rw (get_or-drop, same)

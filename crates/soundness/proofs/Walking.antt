@@ -4,7 +4,7 @@
 use mathlib.Core.Path.{◌≡◌, refl, sym, ap, ◌∙◌}
 use mathlib.Core.Bool.{Bool, true, false}
 use mathlib.Core.List.{List, [], ◌∷◌}
-use Prim.Native.Nat.{ℕ, suc, ◌-◌, ◌≤◌, ◌<◌}
+use Prim.Native.Nat.{ℕ, suc, ◌+◌, ◌-◌, ◌≤◌, ◌<◌}
 use native.Mathlib.Omega.{arith}
 use lib.Dec.{eqb}
 use lib.ListN.{length, get_or}
@@ -124,9 +124,9 @@ pub record Walking (es : List PageCacheEntry) (m : List ℕ) (n z k a : ℕ) : T
 pub walking_start : {es : List PageCacheEntry} {m : List ℕ} {n z : ℕ} → z < length es → Walking es m n z n z
 walking_start h = record { inside = h; on = λ t. t; back = λ t. t }
 
-module _ {es : List PageCacheEntry} {m : List ℕ} {n z k a : ℕ} (i : Walking es m n z k a) (some : 1 ≤ n) where
+module _ {es : List PageCacheEntry} {m : List ℕ} {n z k a : ℕ} (walking : Walking es m n z k a) (some : 1 ≤ n) where
   no_walk : (Rest es m z k a → ⊥) → Decides false (Walked es m n z)
-  no_walk f = decides_no (λ w. f (i.back (walked_rest some w)))
+  no_walk f = decides_no (λ w. f (walking.back (walked_rest some w)))
 
   -- all slots are used up, and the walk is not back
   pub walking_out : k ≡ 0 → Decides false (Walked es m n z)
@@ -149,29 +149,29 @@ module _ {es : List PageCacheEntry} {m : List ℕ} {n z k a : ℕ} (i : Walking 
 
         module _ (held : free ≡ false) (inverse : f.prev.0 ≡ a) where
           here : Taken m (length es) a
-          here = record { inside = i.inside; held = held_unmarked t (bit_limit m a) held }
+          here = record { inside = walking.inside; held = held_unmarked t (bit_limit m a) held }
 
-          -- back at the start: at the end, or too soon
-          pub walking_home : next ≡ z → 1 ≤ k → Decides (eqb (k - 1) 0) (Walked es m n z)
-          walking_home h l = record {
-            right = λ u. rest_walked (i.on (rest_end (last (eqb-true _ _ u)) here (rw r at h) (rw (s, r) at inverse)));
-            whole = λ w. eq-eqb (k - 1) 0 (one (rest_last (i.back (walked_rest some w)) (rw r at h)));
+          -- back at the start after i slots and this one: at the end, or too soon
+          pub walking_home : next ≡ z → {i : ℕ} → i < n → k ≡ n - i → Decides (eqb (i + 1) n) (Walked es m n z)
+          walking_home h {i} l e = record {
+            right = λ u. rest_walked (walking.on (rest_end (last (eqb-true _ _ u)) here (rw r at h) (rw (s, r) at inverse)));
+            whole = λ w. eq-eqb (i + 1) n (one (rest_last (walking.back (walked_rest some w)) (rw r at h)));
           }
             where
-              last : k - 1 ≡ 0 → k ≡ 1
+              last : i + 1 ≡ n → k ≡ 1
               last u = omega arith
 
-              one : k ≡ 1 → k - 1 ≡ 0
+              one : k ≡ 1 → i + 1 ≡ n
               one u = omega arith
 
-          pub walking_on : (next ≡ z → ⊥) → next < length es → 1 ≤ k → Walking es m n z (k - 1) next
-          walking_on ne l h = record {
+          pub walking_on : (next ≡ z → ⊥) → next < length es → {i : ℕ} → i < n → k ≡ n - i → Walking es m n z (n - (i + 1)) next
+          walking_on ne l {i} h e = record {
             inside = l;
-            on = λ t. i.on (rw more (rest_step here (rw (s, r) at inverse) (rw r at ne) (rw r at t)));
-            back = λ t. rw r (rest_on (rw more at (i.back t)) (rw r at ne));
+            on = λ t. walking.on (rw more (rest_step here (rw (s, r) at inverse) (rw r at ne) (rw r at t)));
+            back = λ t. rw r (rest_on (rw more at (walking.back t)) (rw r at ne));
           }
             where
-              more : k ≡ suc (k - 1)
+              more : k ≡ suc (n - (i + 1))
               more = omega arith
 
 -- ── nothing to walk, and a hand that is no slot ──────────────────────────────

@@ -14,37 +14,27 @@ fn is_ordered(order: &[u32], slots: &[u64], marks: &[u64], by: By, n: usize) -> 
 {
     let size = order.len();
     let mut least: u64 = 0;
-    let mut i = 0;
-    while i < n {
-        let s = order[i];
-        if s as usize >= size {
+    for s in &order[..n] {
+        if *s as usize >= size {
             return false;
         }
-        if free_marks::is_free(marks, Slot(s)) {
+        if free_marks::is_free(marks, Slot(*s)) {
             return false;
         }
-        let x = name(slots, Slot(s), by) as u64;
+        let x = name(slots, Slot(*s), by) as u64;
         if x < least {
             return false;
         }
         least = x + 1;
-        i += 1;
     }
     true
 }
 
-// Whether the places from n on are zero.
-fn is_clear_from(order: &[u32], n: usize) -> bool
-    ensures { Decides result (Clear order.now n) }
+// Whether the places are zero.
+fn is_clear(places: &[u32]) -> bool
+    ensures { Decides result (Clear places.now 0) }
 {
-    let mut i = n;
-    while i < order.len() {
-        if order[i] != 0 {
-            return false;
-        }
-        i += 1;
-    }
-    true
+    places.iter().all(|place| *place == 0)
 }
 
 // Whether the order is an index of n slots that are not free.
@@ -52,8 +42,5 @@ pub fn lists(order: &[u32], slots: &[u64], marks: &[u64], by: By, n: usize) -> b
     requires { Orderable order.now slots.now marks.now n }
     ensures { Decides result (IndexGood (names by (entries slots.now)) order.now marks.now n) }
 {
-    if !is_ordered(order, slots, marks, by, n) {
-        return false;
-    }
-    is_clear_from(order, n)
+    is_ordered(order, slots, marks, by, n) && is_clear(&order[n..])
 }

@@ -1,22 +1,23 @@
 // The lengths of the lent parts, and the numbers of the head.
 ghost use Rattle.pool.specs.Decides.{Decides};
-ghost use Rattle.memory.specs.Memory.{memory_of};
+ghost use Rattle.memory.specs.Memory.{memory_seen};
 ghost use Rattle.soundness.specs.Checks.{Agreeing, InRange};
 
+use memory::LentView;
 use page::PageCache;
 
 // Whether the parts have the lengths that they need for as many slots as `by_key` has places.
-pub fn lengths_agree(slots: &[u64], by_key: &[u32], by_handle: &[u32], marks: &[u64]) -> bool
-    ensures { Decides result (Agreeing (memory_of slots.now by_key.now by_handle.now marks.now)) }
+pub fn lengths_agree(memory: LentView<'_>) -> bool
+    ensures { Decides result (Agreeing (memory_seen memory.entry)) }
 {
-    let size = by_key.len();
+    let size = memory.by_key.len();
     if size > PageCache::MAX_SLOTS as usize {
         return false;
     }
     (size >= 1)
-        & (slots.len() == 4 * size)
-        & (by_handle.len() == size)
-        & (marks.len() == (size + 63) / 64)
+        & (memory.slots.len() == 4 * size)
+        & (memory.by_handle.len() == size)
+        & (memory.marks.len() == (size + 63) / 64)
 }
 
 // Whether the head's numbers are in range for a pool of that size.

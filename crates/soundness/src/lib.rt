@@ -8,10 +8,10 @@
 //     slots.rt      the slots: held ones have a good entry, free ones are all zero
 //     sound.rt      is_sound: all of these
 //
-// `is_sound` is one pass over each part, and refuses at the first thing that is wrong. No pass compares two parts in
-// full. A walk that comes back to the hand only at its end meets no slot twice, and slots with strictly ascending names
-// are different. So the ring and each index are `held` different slots, all of them unmarked; and if exactly `held` slots
-// are unmarked, each of the three has exactly the unmarked ones.
+// Each pass is lent the parts that it looks at, one by one: so its contract speaks of no other. `is_sound` is one pass over each part, and
+// refuses at the first thing that is wrong. No pass compares two parts in full. A walk that comes back to the hand only at its end meets no
+// slot twice, and slots with strictly ascending names are different. So the ring and each index are `held` different slots, all of them
+// unmarked; and if exactly `held` slots are unmarked, each of the three has exactly the unmarked ones.
 //
 // Callers may rely on this: `is_sound` answers yes exactly if the memory is sound (crate memory).
 #![tactic(auto)]

@@ -11,7 +11,7 @@ pub fn is_ring(slots: &[u64], marks: &[u64], size: u32, held: u32, hand: Slot) -
     ensures { Decides result (Walked (entries slots.now) marks.now held hand.0) }
 {
     if held == 0 {
-        return hand.0 == 0;
+        return hand == Slot(0);
     }
     if hand.0 >= size {
         return false;
@@ -24,23 +24,21 @@ fn goes_round(slots: &[u64], marks: &[u64], size: u32, held: u32, hand: Slot) ->
     requires { Walkable slots.now marks.now size held hand.0 }
     ensures { Decides result (Walked (entries slots.now) marks.now held hand.0) }
 {
-    let mut left = held;
-    let mut at = hand.0;
-    while left > 0 {
-        if free_marks::is_free(marks, Slot(at)) {
+    let mut at = hand;
+    for passed in 0..held {
+        if free_marks::is_free(marks, at) {
             return false;
         }
-        let next = ring_links::next(slots, Slot(at)).0;
-        if next >= size {
+        let next = ring_links::next(slots, at);
+        if next.0 >= size {
             return false;
         }
-        let back = pool::load(slots, Slot(next)).prev;
-        if back.0 != at {
+        let back = pool::load(slots, next).prev;
+        if back != at {
             return false;
         }
-        left -= 1;
-        if next == hand.0 {
-            return left == 0;
+        if next == hand {
+            return passed + 1 == held;
         }
         at = next;
     }

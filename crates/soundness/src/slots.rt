@@ -30,12 +30,10 @@ pub fn all_slots_good(slots: &[u64], marks: &[u64], size: u32) -> bool
     requires { SlotsReadable slots.now marks.now size }
     ensures { Decides result (AllSlotsGood (entries slots.now) marks.now size) }
 {
-    let mut s: u32 = 0;
-    while s < size {
+    for s in 0..size {
         if !is_slot_good(slots, marks, Slot(s)) {
             return false;
         }
-        s += 1;
     }
     true
 }

@@ -1,6 +1,6 @@
 // The soundness test.
 ghost use Rattle.pool.specs.Decides.{Decides};
-ghost use Rattle.memory.specs.Memory.{memory_of};
+ghost use Rattle.memory.specs.Memory.{memory_seen, WordsFit};
 ghost use Rattle.memory.specs.Holds.{Sound};
 
 use crate::index::lists;
@@ -8,20 +8,25 @@ use crate::lengths::{in_range, lengths_agree};
 use crate::marks::marks_agree;
 use crate::ring::is_ring;
 use crate::slots::all_slots_good;
+use free_marks::words_fit;
+use memory::LentView;
 use page::PageCache;
 use sorted_index::By;
 
 // Whether the memory is sound. The cheapest pass comes first.
-pub fn is_sound(
-    slots: &[u64],
-    by_key: &[u32],
-    by_handle: &[u32],
-    marks: &[u64],
-    head: PageCache,
-) -> bool
-    ensures { Decides result (Sound (memory_of slots.now by_key.now by_handle.now marks.now) head) }
+pub fn is_sound(memory: LentView<'_>, head: PageCache) -> bool
+    ensures decides { Decides result (Sound (memory_seen memory.entry) head) }
+    ensures words { WordsFit (memory_seen memory.entry) }
 {
-    if !lengths_agree(slots, by_key, by_handle, marks) {
+    let LentView {
+        slots,
+        by_key,
+        by_handle,
+        marks,
+    } = memory;
+    words_fit(slots);
+    words_fit(marks);
+    if !lengths_agree(memory) {
         return false;
     }
     let size = by_key.len() as u32;

@@ -19,7 +19,7 @@ use Rattle.memory.specs.Walk.{walk}
 use Rattle.memory.proofs.Walks.{walk_at, walk_from, walked_none, walked_one, walked_past, walked_split}
 use Rattle.answer.specs.Answer.{Wrote}
 use Rattle.spilling.specs.Parts.{PartsOfSound, Selected}
-use Rattle.spilling.proofs.Walking.{readable_place, Met, met_none, page_of, loaded_page, met_one, met_past, whole_walk}
+use Rattle.spilling.proofs.Walking.{readable_fits, Met, met_none, page_of, loaded_page, met_one, met_past, whole_walk}
 
 abbrev handles_of : List Page → List ℕ
 handles_of pages = map (λ p. p.handle) pages
@@ -85,7 +85,7 @@ module _ {slots by_key before after : List ℕ} {held most i listed : ℕ} {e : 
       → Selecting slots by_key before held most (i + 1) listed' after'
   selecting_one q room long stored next =
       let handles : handles_of (spillables slots by_key (i + 1)) ≡ handles_of (spillables slots by_key i) ++ e.handle.0 ∷ [] =
-      ap handles_of (walked_one page_spillable slots by_key i (readable_place r more).within (sym (ap page_spillable page) ∙ q))
+      ap handles_of (walked_one page_spillable slots by_key i (omega (arith, readable_fits r)) (sym (ap page_spillable page) ∙ q))
       ∙ map-append (λ p. p.handle) (spillables slots by_key i) ((walk_at slots by_key i).page ∷ [])
       ∙ ap {B = List ℕ} (λ (p : Page). handles_of (spillables slots by_key i) ++ p.handle ∷ []) (sym page) in
       record {
@@ -102,7 +102,7 @@ module _ {slots by_key before after : List ℕ} {held most i listed : ℕ} {e : 
       record {
         met = met_past r s.met more loaded q same;
         few = omega (arith, s.few);
-        wrote = rw (walked_past page_spillable slots by_key i (readable_place r more).within (sym (ap page_spillable page) ∙ q), kept) s.wrote;
+        wrote = rw (walked_past page_spillable slots by_key i (omega (arith, readable_fits r)) (sym (ap page_spillable page) ∙ q), kept) s.wrote;
       }
 
 -- ── the selection ────────────────────────────────────────────────────────────

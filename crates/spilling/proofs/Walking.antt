@@ -5,7 +5,9 @@ use mathlib.Core.Bool.{Bool, true, false}
 use mathlib.Core.List.{List, [], ◌∷◌}
 use Prim.Native.Nat.{ℕ, ◌+◌, ◌≤◌, ◌<◌}
 use native.Mathlib.Omega.{arith}
-use lib.ListN.{length, get_or, length-append}
+use lib.ListN.{length, get_or, take, length-append}
+use lib.Seq.{length-take-le}
+use Rattle.std.proofs.lemmas.List.{get_or-take}
 use Rattle.page.specs.declared.cache.PageCache.{PageCache}
 use Rattle.page.specs.declared.entry.PageCacheEntry.{PageCacheEntry}
 use Rattle.pool.specs.Slots.{blank, entries}
@@ -14,22 +16,29 @@ use Rattle.model.specs.Row.{Page, Row, sorted_by_key, those}
 use Rattle.memory.specs.Memory.{Memory}
 use Rattle.memory.specs.Holds.{seen, Holds}
 use Rattle.memory.specs.Walk.{walk}
-use Rattle.memory.proofs.Walks.{walk_at, walk_by_key, walk_fits, walk_inside, walked_none, walked_one, walked_past}
-use Rattle.spilling.specs.Parts.{PartsOfSound, Place}
+use Rattle.memory.proofs.Walks.{walk_at, walk_by_key, walk_fits, walked_none, walked_one, walked_past}
+use Rattle.spilling.specs.Parts.{PartsOfSound}
 use Rattle.spilling.proofs.Counts.{by_key_count}
 
 -- ── what is read ─────────────────────────────────────────────────────────────
 module _ {slots by_key : List ℕ} {held : ℕ} (r : PartsOfSound slots by_key held) where
   -- the index has a place for each held page
-  readable_fits : held ≤ length by_key
+  pub readable_fits : held ≤ length by_key
   readable_fits = omega (arith, walk_fits r.sound.holds, r.same)
 
-  -- and a slot there
-  pub readable_place : {i : ℕ} → i < held → Place slots by_key i
-  readable_place {i} h = record {
-    within = omega (arith, readable_fits);
-    slot = walk_inside r.sound.holds i (omega (arith, r.same));
-  }
+  -- a loop over those places
+  pub turns : length (take held by_key) ≡ held
+  turns = length-take-le held by_key readable_fits
+
+  module _ {i : ℕ} (turn : i < length (take held by_key)) where
+    pub turn_within : i < held
+    turn_within = omega (arith, turns)
+
+    turn_slot : get_or (take held by_key) i 0 ≡ get_or by_key i 0
+    turn_slot = get_or-take held by_key i 0 turn_within
+
+    pub turn_loads : {e : PageCacheEntry} → e ≡ get_or (entries slots) (get_or (take held by_key) i 0) blank → e ≡ get_or (entries slots) (get_or by_key i 0) blank
+    turn_loads loaded = rw turn_slot at loaded
 
 -- ── the walk, place by place ─────────────────────────────────────────────────
 -- `count` of the first i pages of the walk pass the test
@@ -66,7 +75,7 @@ module _ {test : Page → Bool} {slots by_key : List ℕ} {held i count : ℕ} {
     within = omega arith;
     number =
         next
-        ∙ sym (ap length (walked_one test slots by_key i (readable_place r more).within (sym judged ∙ q))
+        ∙ sym (ap length (walked_one test slots by_key i (omega (arith, readable_fits r)) (sym judged ∙ q))
         ∙ length-append (those test (walk slots by_key i)) ((walk_at slots by_key i).page ∷ [])
         ∙ ap (λ (n : ℕ). n + 1) (sym m.number));
     upto = omega (arith, m.upto);
@@ -76,7 +85,7 @@ module _ {test : Page → Bool} {slots by_key : List ℕ} {held i count : ℕ} {
   pub met_past : {count' : ℕ} → test (page_of (get_or by_key i 0) e) ≡ false → count' ≡ count → Met test slots by_key held (i + 1) count'
   met_past q same = record {
     within = omega arith;
-    number = same ∙ m.number ∙ sym (ap length (walked_past test slots by_key i (readable_place r more).within (sym judged ∙ q)));
+    number = same ∙ m.number ∙ sym (ap length (walked_past test slots by_key i (omega (arith, readable_fits r)) (sym judged ∙ q)));
     upto = omega (arith, m.upto);
   }
 

@@ -1,7 +1,6 @@
 -- The two parts of the memory that a spill reads, and what is selected from them.
-use Rattle.std.specs.Prelude.{◌≡◌, List, map, ℕ, ◌≤◌, ◌<◌, length, get_or}
+use Rattle.std.specs.Prelude.{◌≡◌, List, map, ℕ, ◌≤◌, length}
 use Rattle.page.specs.declared.cache.PageCache.{PageCache}
-use Rattle.pool.specs.Slots.{entries}
 use Rattle.model.specs.Row.{Page}
 use Rattle.memory.specs.Memory.{memory_of}
 use Rattle.memory.specs.Holds.{Sound}
@@ -19,11 +18,6 @@ pub record PartsOfSound (slots by_key : List ℕ) (held : ℕ) : Type 0 where
 pub record CanListSelected (slots by_key : List ℕ) (held : ℕ) (list : List ℕ) : Type 0 where
   pub readable : PartsOfSound slots by_key held
   pub long : held ≤ length list
-
--- the index has a place i, and a slot there
-pub record Place (slots by_key : List ℕ) (i : ℕ) : Type 0 where
-  pub within : i < length by_key
-  pub slot : get_or by_key i 0 < length (entries slots)
 
 -- the handles of the pages stand in the first places of the list, and r is their number
 pub record Selected (pages : List Page) (before after : List ℕ) (r : ℕ) : Type 0 where

@@ -7,8 +7,8 @@ ghost use Rattle.memory.specs.Memory.{memory_of};
 ghost use Rattle.memory.specs.Holds.{Holds};
 ghost use Rattle.spilling.specs.Parts.{PartsOfSound};
 
-use crate::walk::entry_at;
-use page::PageCache;
+use page::{PageCache, Slot};
+use pool::load;
 
 // Whether dirty pages should be written out, since too many pages are held and too few of them may go.
 pub fn needs_spill(slots: &[u64], by_key: &[u32], head: PageCache) -> bool
@@ -32,10 +32,7 @@ pub fn needs_spill(slots: &[u64], by_key: &[u32], head: PageCache) -> bool
 fn empty_slots(head: PageCache) -> u32
     ensures { result ≡ head.capacity - head.held }
 {
-    if head.held < head.capacity {
-        return head.capacity - head.held;
-    }
-    0
+    head.capacity.saturating_sub(head.held)
 }
 
 // How many pages may go, counted one by one.
@@ -43,15 +40,12 @@ pub fn count_evictable_pages(slots: &[u64], by_key: &[u32], held: u32) -> u32
     requires { PartsOfSound slots.now by_key.now held }
     ensures { (by_handle marks : List ℕ) (head : PageCache) (c : Cache) → Holds (memory_of slots.now by_key.now by_handle marks) head c → head.held ≡ held → result ≡ length (those page_may_go c.row) }
 {
-    let n = held as usize;
     let mut count: u32 = 0;
-    let mut i: usize = 0;
-    while i < n {
-        let e = entry_at(slots, by_key, i);
+    for s in &by_key[..held as usize] {
+        let e = load(slots, Slot(*s));
         if PageCache::evictable(e.key, e.page) {
             count += 1;
         }
-        i += 1;
     }
     count
 }

@@ -10,9 +10,9 @@ ghost use Rattle.answer.specs.Answer.{MatchesOutcome};
 ghost use Rattle.spilling.specs.Parts.{PartsOfSound, CanListSelected, Selected};
 
 use crate::need::needs_spill;
-use crate::walk::entry_at;
 use answer::{Answer, Answered};
-use page::PageCache;
+use page::{PageCache, Slot};
+use pool::load;
 
 // Lists the handles of the first `most` pages by key that a spill may select, and says how many there are.
 fn collect_spillable_pages(
@@ -25,19 +25,16 @@ fn collect_spillable_pages(
     requires { CanListSelected slots.now by_key.now held list.old }
     ensures { (by_handle marks : List ℕ) (head : PageCache) (c : Cache) → Holds (memory_of slots.now by_key.now by_handle marks) head c → head.held ≡ held → Selected (selection most c) list.old list.new result }
 {
-    let n = held as usize;
     let mut listed: u32 = 0;
-    let mut i: usize = 0;
-    while i < n {
+    for s in &by_key[..held as usize] {
         if most <= listed as u64 {
             return listed;
         }
-        let e = entry_at(slots, by_key, i);
+        let e = load(slots, Slot(*s));
         if PageCache::spillable(e.key, e.page) {
             list[listed as usize] = e.handle.0;
             listed += 1;
         }
-        i += 1;
     }
     listed
 }

@@ -1,13 +1,14 @@
-// Text for standard output, put together in one large array; messages.
+// What a program writes: its output, and its messages.
 //
-//     putting.rt   bytes, words and numbers into the output
-//     writing.rt   the output written out, when it is full and at the end; messages, at once
+//     output.rt    Output: what goes to standard output, put together in memory and written out when it is full and at the end
+//     messages.rt  a line to standard error, at once; Reason: why the system refused
 //
-// A function that puts something answers the place after it. Its caller makes sure that there is room.
+// Callers may rely on this: what is put into an `Output` is written out in its order, and nothing is but by `flush`, by `begin_line`, or
+// where there is no room for more.
 #![tactic(auto)]
 
-mod putting;
-mod writing;
+mod messages;
+mod output;
 
-pub use putting::{ROOM, put, put_named, put_next, put_number, put_words};
-pub use writing::{Place, next_place, say, say_failure, write_first};
+pub use messages::{Reason, say};
+pub use output::Output;

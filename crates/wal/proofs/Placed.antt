@@ -7,24 +7,22 @@ use mathlib.Core.List.{List, [], ◌∷◌, ◌++◌, map}
 use Prim.Native.Nat.{ℕ, zero, suc, ◌+◌, ◌*◌, ◌≤◌}
 use native.Mathlib.Nat.{mul-le-mul_right}
 use native.Mathlib.Omega.{arith}
+use Rattle.std.specs.Prelude.{Some, Result, Ok, Err}
 use lib.Dec.{eqb, ltb}
 use lib.ListN.{length, take, drop}
 use borrow.Author.Tests.{le-leb, le-ltb}
 use Rattle.wal_checksum.specs.declared.sums.Sums.{Sums}
 use Rattle.wal_header.specs.declared.header.Header.{Header}
-use Rattle.wal_header.specs.declared.header.Opened.{Opened}
-use Rattle.wal_header.specs.declared.header.Opened.TheVariants.{Refused, Log}
+use Rattle.wal_header.specs.declared.header.Fault.{Fault}
 use Rattle.wal_header.specs.Header.{opened}
 use Rattle.wal_header.proofs.Opening.{opened_long}
 use Rattle.wal_frame.specs.declared.frame.Frame.{Frame}
 use Rattle.wal_frame.specs.Frame.{frame_length, frame_at, valid}
 use Rattle.wal_frame.proofs.Framing.{valid_whole}
-use Rattle.wal_frames.specs.declared.scanning.Commit.TheVariants.{At}
 use Rattle.wal_frames.specs.declared.scanning.Summary.{Summary}
-use Rattle.wal_frames.specs.declared.scanning.Scanned.TheVariants.{Read}
 use Rattle.wal_frames.specs.Scan.{frames, frames_in, start_of, counted, tally, scan_of, scanned_as, scanned}
-use Rattle.wal.specs.declared.list.Listed.{Listed}
-use Rattle.wal.specs.declared.list.Listed.TheVariants as listing
+use Rattle.wal.specs.declared.list.ListError.{ListError}
+use Rattle.wal.specs.declared.list.ListError.TheVariants as refused
 use Rattle.wal.specs.Reading.{reaches, placed, committed, newest, found, listed, ListsFrames}
 
 -- ── where the valid frames stand ─────────────────────────────────────────────
@@ -77,7 +75,7 @@ unfolding tally counted
 tally_last s [] le = omega arith
 tally_last s (f ∷ fs) le = omega (arith, tally_last (counted s f) fs (go (eqb f.commit 0)))
   where
-    go : (t : Bool) → committed (cond t s.last (At (s.frames + 1) f.commit)) ≤ s.frames + 1
+    go : (t : Bool) → committed (cond t s.last (Some (record { frame = s.frames + 1; pages = f.commit }))) ≤ s.frames + 1
     go true = omega arith
     go false = omega arith
 
@@ -113,15 +111,15 @@ placed_take n b (suc k) (suc m) at le =
     ap (λ (fs : List Frame). frame_at b at ∷ fs) (placed_take n b k m (at + n) (omega arith))
 
 -- all valid frames are listed
-pub record OwnListed (h : Header) (b pages sizes : List ℕ) (answer : Listed) (pages' sizes' : List ℕ) : Type 0 where
-  pub told : answer ≡ listing.Done (length (frames_in h b))
+pub record OwnListed (h : Header) (b pages sizes : List ℕ) (answer : Result ℕ ListError) (pages' sizes' : List ℕ) : Type 0 where
+  pub told : answer ≡ Ok (length (frames_in h b))
   pub numbers : pages' ≡ map (λ f. f.page) (frames_in h b) ++ drop (length (frames_in h b)) pages
   pub commits : sizes' ≡ map (λ f. f.commit) (frames_in h b) ++ drop (length (frames_in h b)) sizes
 
 module _ (h : Header) (b : List ℕ) (long : 32 ≤ length b) where
   -- a page is looked for in the valid frames up to the last commit
   pub own_found : (page : ℕ) → found page (scan_of h b) b
-      ≡ newest page (frame_length h) 0 32 (take (committed (scan_of h b).last) (frames_in h b))
+      ≡ Ok (newest page (frame_length h) 0 32 (take (committed (scan_of h b).last) (frames_in h b)))
   unfolding found
   own_found page =
       let own = own_summary h b in
@@ -134,24 +132,24 @@ module _ (h : Header) (b : List ℕ) (long : 32 ≤ length b) where
   -- all valid frames are to be listed
   own_answer : (pages sizes : ℕ) → listed (scan_of h b) b pages sizes
       ≡ cond (ltb pages (length (frames_in h b)) || ltb sizes (length (frames_in h b)))
-      listing.Short
-      (listing.Done (length (frames_in h b)))
+      (Err refused.Short)
+      (Ok (length (frames_in h b)))
   unfolding listed
   own_answer pages sizes =
       let own = own_summary h b in
       let known = own_reaches h b long (length (frames_in h b)) (omega arith) in
       rw (own.header, own.frames, known)
 
-  pub own_known : (pages sizes : ℕ) → listed (scan_of h b) b pages sizes ≡ listing.OtherLog → ⊥
+  pub own_known : (pages sizes : ℕ) → listed (scan_of h b) b pages sizes ≡ Err refused.OtherLog → ⊥
   own_known pages sizes other =
       go (ltb pages (length (frames_in h b)) || ltb sizes (length (frames_in h b))) (sym (own_answer pages sizes) ∙ other)
     where
-      go : (t : Bool) → cond t listing.Short (listing.Done (length (frames_in h b))) ≡ listing.OtherLog → ⊥
+      go : (t : Bool) → cond t (Err refused.Short) (Ok (length (frames_in h b))) ≡ Err refused.OtherLog → ⊥
       go true e = let z : ◌≡◌ {A = ℕ} 0 1 = cc in omega arith
       go false e = let z : ◌≡◌ {A = ℕ} 0 1 = cc in omega arith
 
   -- and with lists that are long enough they are
-  pub own_listed : {pages sizes pages' sizes' : List ℕ} {answer : Listed}
+  pub own_listed : {pages sizes pages' sizes' : List ℕ} {answer : Result ℕ ListError}
       → ListsFrames (scan_of h b) b pages sizes answer pages' sizes'
       → length (frames_in h b) ≤ length pages → length (frames_in h b) ≤ length sizes
       → OwnListed h b pages sizes answer pages' sizes'
@@ -160,7 +158,7 @@ module _ (h : Header) (b : List ℕ) (long : 32 ≤ length b) where
       let numbered = le-ltb (length pages) (length (frames_in h b)) pages_room in
       let sized = le-ltb (length sizes) (length (frames_in h b)) sizes_room in
       let due = own_answer (length pages) (length sizes) in
-      let done : answer ≡ listing.Done (length (frames_in h b)) = g.told ∙ due ∙ rw (numbered, sized) in
+      let done : answer ≡ Ok (length (frames_in h b)) = g.told ∙ due ∙ rw (numbered, sized) in
       record {
         told = done;
         numbers = rw (done, own.header, own_frames h b) at g.numbers;
@@ -171,30 +169,30 @@ module _ (h : Header) (b : List ℕ) (long : 32 ≤ length b) where
 -- the log opens, and the summary is its own
 pub record Own (b : List ℕ) (s : Summary) : Type 0 where
   pub header : Header
-  pub opens : opened b ≡ Log header
+  pub opens : opened b ≡ Ok header
   pub long : 32 ≤ length b
   pub is : s ≡ scan_of header b
   pub headed : header ≡ s.header
 
-pub scan_own : (b : List ℕ) {s : Summary} → scanned b ≡ Read s → Own b s
+pub scan_own : (b : List ℕ) {s : Summary} → scanned b ≡ Ok s → Own b s
 scan_own b {s} e = go (opened b) refl e
   where
-    go : (o : Opened) → opened b ≡ o → scanned_as o b ≡ Read s → Own b s
-    go (Refused fault) is e = absurd (let z : ◌≡◌ {A = ℕ} 0 1 = cc in omega arith)
-    go (Log h) is e =
+    go : (o : Result Header Fault) → opened b ≡ o → scanned_as o b ≡ Ok s → Own b s
+    go (Err fault) is e = absurd (let z : ◌≡◌ {A = ℕ} 0 1 = cc in omega arith)
+    go (Ok h) is e =
         let same : s ≡ scan_of h b = cc in
         let headed : h ≡ s.header = sym (ap (λ (t : Summary). t.header) same ∙ (own_summary h b).header) in
         record { header = h; opens = is; long = opened_long b is; is = same; headed = headed }
 
 -- a listing knows it, and so does a search (`scan_reads` of proofs/Reader.antt)
-pub scan_known : (b : List ℕ) {s : Summary} → scanned b ≡ Read s
-    → (pages sizes : ℕ) → listed s b pages sizes ≡ listing.OtherLog → ⊥
+pub scan_known : (b : List ℕ) {s : Summary} → scanned b ≡ Ok s
+    → (pages sizes : ℕ) → listed s b pages sizes ≡ Err refused.OtherLog → ⊥
 scan_known b e pages sizes other =
     let own = scan_own b e in
-    let other' = subst (λ (t : Summary). listed t b pages sizes ≡ listing.OtherLog) own.is other in
+    let other' = subst (λ (t : Summary). listed t b pages sizes ≡ Err refused.OtherLog) own.is other in
     own_known own.header b own.long pages sizes other'
 
-pub scan_lists : (b : List ℕ) {s : Summary} {pages sizes pages' sizes' : List ℕ} {answer : Listed} → scanned b ≡ Read s
+pub scan_lists : (b : List ℕ) {s : Summary} {pages sizes pages' sizes' : List ℕ} {answer : Result ℕ ListError} → scanned b ≡ Ok s
     → ListsFrames s b pages sizes answer pages' sizes' → s.frames ≤ length pages → s.frames ≤ length sizes
     → OwnListed s.header b pages sizes answer pages' sizes'
 scan_lists b {s} {pages} {sizes} {pages'} {sizes'} {answer} e g pages_room sizes_room =

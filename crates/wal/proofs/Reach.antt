@@ -1,13 +1,7 @@
--- A number of frames lie within a log exactly if it is at most the bytes after the header divided by the frame length, rounded down.
-use mathlib.Core.Path.{◌≡◌, refl, sym, ◌∙◌}
-use mathlib.Core.Bool.{Bool, true, false}
-use mathlib.Core.List.{List}
-use Prim.Native.Nat.{ℕ, ◌+◌, ◌*◌, ◌-◌, ◌/◌, ◌≤◌, ◌<◌}
-use native.Mathlib.Nat.{le-div_iff_mul-le}
-use native.Mathlib.Omega.{arith}
-use lib.Dec.{leb}
-use lib.ListN.{length}
-use borrow.Author.Tests.{leb-true, leb-false, le-leb, lt-leb}
+-- Where frames lie that stand one after another within a log.
+use Rattle.std.proofs.Common.{◌≡◌, ℕ, ◌+◌, ◌*◌, ◌-◌, ◌/◌, ◌≤◌, ◌<◌, Bool, true, false, List, length, leb, refl, sym, arith}
+use Rattle.std.proofs.lemmas.Bool.{leb-true, leb-false, le-leb, lt-leb}
+use native.Mathlib.Nat.{le-div_iff_mul-le, mul-le-mul_right}
 use Rattle.wal.specs.Reading.{reaches}
 
 -- two tests that say the same
@@ -22,21 +16,20 @@ same_tests a b c d to from = go (leb c d) refl
         go_less true h e = absurd (omega (arith, to (leb-true a b h), leb-false c d e))
         go_less false h e = leb-false a b h
 
-module _ (n count : ℕ) (b : List ℕ) where
-  pub reach_none : length b < 32 → false ≡ reaches n count b
-  unfolding reaches
-  reach_none short = sym (lt-leb (32 + count * n) (length b) (omega arith))
+-- they lie within it exactly if there are at most as many as the bytes after the header divided by their length, rounded down
+pub reach_divided : (count n long : ℕ) → 0 < n → 32 ≤ long → leb count ((long - 32) / n) ≡ leb (32 + count * n) long
+reach_divided count n long some header = same_tests count ((long - 32) / n) (32 + count * n) long to from
+  where
+    to : count ≤ (long - 32) / n → 32 + count * n ≤ long
+    to le = omega (arith, (le-div_iff_mul-le some).0 le)
 
-  pub reach_divided : {l : ℕ} → l ≡ n → 0 < n → 32 ≤ length b → leb count ((length b - 32) / l) ≡ reaches n count b
-  unfolding reaches
-  reach_divided is some long = rw is (same_tests count ((length b - 32) / n) (32 + count * n) (length b) to from)
-    where
-      to : count ≤ (length b - 32) / n → 32 + count * n ≤ length b
-      to le = omega (arith, (le-div_iff_mul-le some).0 le)
+    from : 32 + count * n ≤ long → count ≤ (long - 32) / n
+    from le = (le-div_iff_mul-le some).1 (omega arith)
 
-      from : 32 + count * n ≤ length b → count ≤ (length b - 32) / n
-      from le = (le-div_iff_mul-le some).1 (omega arith)
+pub reach_within : (n count : ℕ) (b : List ℕ) → true ≡ reaches n count b → 32 + count * n ≤ length b
+unfolding reaches
+reach_within n count b so = leb-true (32 + count * n) (length b) (sym so)
 
-  pub reach_within : {told : Bool} {l : ℕ} → told ≡ reaches n count b → told ≡ true → l ≡ n → 32 + count * l ≤ length b
-  unfolding reaches
-  reach_within tells so is = rw is (leb-true (32 + count * n) (length b) (sym tells ∙ so))
+-- and so does each of them
+pub reach_each : (i n : ℕ) {count long : ℕ} → 32 + count * n ≤ long → i < count → 32 + i * n + n ≤ long
+reach_each i n fits below = omega (arith, fits, mul-le-mul_right n below)

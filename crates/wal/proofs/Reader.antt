@@ -8,6 +8,7 @@ use mathlib.Core.List.{List, [], ◌∷◌, ◌++◌, append_assoc}
 use mathlib.Core.Logic.{inl, inr}
 use Prim.Native.Nat.{ℕ, suc, ◌+◌, ◌*◌, ◌≤◌}
 use native.Mathlib.Omega.{arith}
+use Rattle.std.specs.Prelude.{Option, Some, None, Ok}
 use lib.Dec.{eqb}
 use lib.ListN.{length, take, length-append}
 use lib.Seq.{append_snoc, take_at}
@@ -16,12 +17,9 @@ use Rattle.wal_header.specs.declared.header.Header.{Header}
 use Rattle.wal_frame.specs.declared.frame.Frame.{Frame}
 use Rattle.wal_frame.specs.Frame.{frame_length}
 use Rattle.wal_frames.specs.declared.scanning.Commit.{Commit}
-use Rattle.wal_frames.specs.declared.scanning.Commit.TheVariants as commit
-use Rattle.wal_frames.specs.declared.scanning.Scanned.TheVariants.{Read}
 use Rattle.wal_frames.specs.declared.scanning.Summary.{Summary}
 use Rattle.wal_frames.specs.Scan.{frames_in, scan_of, scanned}
 use Rattle.wal.specs.declared.find.FoundFrame.{FoundFrame}
-use Rattle.wal.specs.declared.find.FoundFrame.TheVariants.{OtherLog, Nothing, At}
 use Rattle.wal.specs.Reading.{committed, newer, newest, found}
 use Rattle.wal.proofs.Placed.{own_found, scan_own}
 use Rattle.wal.specs.Committed.{NoCommit, LastIs, HasCommit, NoCopy, ReadsAs}
@@ -44,10 +42,9 @@ record NewestAt (page n number at : ℕ) (fs : List Frame) (k place : ℕ) : Typ
   holds : frame.page ≡ page
   none : NoPage page after
 
-abbrev NewestIs : (page n number at : ℕ) → List Frame → FoundFrame → Type 0
-NewestIs page n number at fs OtherLog = ⊥
-NewestIs page n number at fs Nothing = NoPage page fs
-NewestIs page n number at fs (At k place) = NewestAt page n number at fs k place
+abbrev NewestIs : (page n number at : ℕ) → List Frame → Option FoundFrame → Type 0
+NewestIs page n number at fs None = NoPage page fs
+NewestIs page n number at fs (Some f) = NewestAt page n number at fs f.number f.offset
 
 module _ (page n : ℕ) where
   newest_is : (number at : ℕ) (fs : List Frame) → NewestIs page n number at fs (newest page n number at fs)
@@ -56,7 +53,7 @@ module _ (page n : ℕ) where
   newest_is number at (f ∷ fs) = later (newest page n (suc number) (at + n) fs) (newest_is (suc number) (at + n) fs)
     where
       this : (t : Bool) → eqb f.page page ≡ t → NoPage page fs
-          → NewestIs page n number at (f ∷ fs) (cond t (At (suc number) at) Nothing)
+          → NewestIs page n number at (f ∷ fs) (cond t (Some (record { number = suc number; offset = at })) None)
       this true e none = record {
         before = [];
         frame = f;
@@ -69,11 +66,10 @@ module _ (page n : ℕ) where
       }
       this false e none = (eqb-false f.page page e, none)
 
-      later : (r : FoundFrame) → NewestIs page n (suc number) (at + n) fs r
-          → NewestIs page n number at (f ∷ fs) (newer r (cond (eqb f.page page) (At (suc number) at) Nothing))
-      later OtherLog g = g
-      later Nothing g = this (eqb f.page page) refl g
-      later (At k place) g = record {
+      later : (r : Option FoundFrame) → NewestIs page n (suc number) (at + n) fs r
+          → NewestIs page n number at (f ∷ fs) (newer r (cond (eqb f.page page) (Some (record { number = suc number; offset = at })) None))
+      later None g = this (eqb f.page page) refl g
+      later (Some found) g = record {
         before = f ∷ g.before;
         frame = g.frame;
         after = g.after;
@@ -123,10 +119,9 @@ module _ (page : ℕ) where
   -- ── the answer ─────────────────────────────────────────────────────────────
   module _ (n : ℕ) where
     newest_reads : (upto after : List Frame) → Ends upto → NoCommit after
-        → (r : FoundFrame) → NewestIs page n 0 32 upto r → ReadsAs page n (upto ++ after) r
-    newest_reads upto after ends none OtherLog g = g
-    newest_reads upto after ends none Nothing g = no_page_copy upto after g none
-    newest_reads upto after ends none (At k at) g =
+        → (r : Option FoundFrame) → NewestIs page n 0 32 upto r → ReadsAs page n (upto ++ after) (Ok r)
+    newest_reads upto after ends none None g = no_page_copy upto after g none
+    newest_reads upto after ends none (Some f) g =
         let Ends-there = ends_from g.before g.frame g.after (subst Ends g.split ends) in
         record {
           before = g.before;
@@ -140,18 +135,18 @@ module _ (page : ℕ) where
           last = no_page_copy g.after after g.none none;
         }
 
-    last_reads : (fs : List Frame) (c : Commit) → LastIs c fs → ReadsAs page n fs (newest page n 0 32 (take (committed c) fs))
+    last_reads : (fs : List Frame) (c : Option Commit) → LastIs c fs → ReadsAs page n fs (Ok (newest page n 0 32 (take (committed c) fs)))
     unfolding newest
-    last_reads fs commit.Nothing g = no_commit_copy fs g
-    last_reads fs (commit.At k size) g =
+    last_reads fs None g = no_commit_copy fs g
+    last_reads fs (Some c) g =
         let upto = g.before ++ g.frame ∷ [] in
         let whole : upto ++ g.after ≡ fs = append_snoc g.before g.frame g.after ∙ sym g.split in
-        let long : length upto ≡ k = length-append g.before (g.frame ∷ []) ∙ g.number in
-        let part : take k fs ≡ upto = ap (λ (l : List Frame). take k l) (sym whole) ∙ take_at upto g.after k long in
+        let long : length upto ≡ c.frame = length-append g.before (g.frame ∷ []) ∙ g.number in
+        let part : take c.frame fs ≡ upto = ap (λ (l : List Frame). take c.frame l) (sym whole) ∙ take_at upto g.after c.frame long in
         let some : g.frame.commit ≡ 0 → ⊥ = λ z. g.some (sym g.sized ∙ z) in
         let ends = ends_last g.before g.frame some in
         let reads = newest_reads upto g.after ends g.none (newest page n 0 32 upto) (newest_is page n 0 32 upto) in
-        rw part (subst (λ (l : List Frame). ReadsAs page n l (newest page n 0 32 upto)) whole reads)
+        rw part (subst (λ (l : List Frame). ReadsAs page n l (Ok (newest page n 0 32 upto))) whole reads)
 
 -- of a log with this header
 pub own_reads : (h : Header) (b : List ℕ) → 32 ≤ length b → (page : ℕ)
@@ -160,7 +155,7 @@ own_reads h b long page =
     rw (own_found h b long page) (last_reads page (frame_length h) (frames_in h b) (scan_of h b).last (own_last h b))
 
 -- of any log, with the summary that its scan gave
-pub scan_reads : (b : List ℕ) {s : Summary} → scanned b ≡ Read s → (page : ℕ)
+pub scan_reads : (b : List ℕ) {s : Summary} → scanned b ≡ Ok s → (page : ℕ)
     → ReadsAs page (frame_length s.header) (frames_in s.header b) (found page s b)
 scan_reads b {s} e page =
     let own = scan_own b e in

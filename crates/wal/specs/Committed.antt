@@ -1,10 +1,9 @@
 -- The committed part of a log, in the words of the document's section 4.5.
-use Rattle.std.specs.Prelude.{◌≡◌, List, [], ◌∷◌, ◌++◌, ◌⊎◌, ℕ, ◌+◌, ◌*◌, length}
+use Rattle.std.specs.Prelude.{◌≡◌, List, [], ◌∷◌, ◌++◌, ◌⊎◌, ℕ, ◌+◌, ◌*◌, length, Option, Some, None, Result, Ok, Err}
 use Rattle.wal_frame.specs.declared.frame.Frame.{Frame}
 use Rattle.wal_frames.specs.declared.scanning.Commit.{Commit}
-use Rattle.wal_frames.specs.declared.scanning.Commit.TheVariants as commit
 use Rattle.wal.specs.declared.find.FoundFrame.{FoundFrame}
-use Rattle.wal.specs.declared.find.FoundFrame.TheVariants.{OtherLog, Nothing, At}
+use Rattle.wal.specs.declared.find.OtherLog.{OtherLog}
 
 -- ── the last commit ──────────────────────────────────────────────────────────
 -- none of the frames is a commit
@@ -24,9 +23,9 @@ pub record LastCommit (fs : List Frame) (k size : ℕ) : Type 0 where
   pub none : NoCommit after
 
 -- a summary's last commit is that of the frames
-abbrev pub LastIs : Commit → List Frame → Type 0
-LastIs commit.Nothing fs = NoCommit fs
-LastIs (commit.At k size) fs = LastCommit fs k size
+abbrev pub LastIs : Option Commit → List Frame → Type 0
+LastIs None fs = NoCommit fs
+LastIs (Some c) fs = LastCommit fs c.frame c.pages
 
 -- ── the committed copies of a page ───────────────────────────────────────────
 -- the first of the frames is a commit, or is followed by one
@@ -53,7 +52,7 @@ pub record Copy (page n : ℕ) (fs : List Frame) (k at : ℕ) : Type 0 where
   pub last : NoCopy page after
 
 -- the answer for a log with these valid frames
-abbrev pub ReadsAs : (page n : ℕ) → List Frame → FoundFrame → Type 0
-ReadsAs page n fs OtherLog = ⊥
-ReadsAs page n fs Nothing = NoCopy page fs
-ReadsAs page n fs (At k at) = Copy page n fs k at
+abbrev pub ReadsAs : (page n : ℕ) → List Frame → Result (Option FoundFrame) OtherLog → Type 0
+ReadsAs page n fs (Err other) = ⊥
+ReadsAs page n fs (Ok None) = NoCopy page fs
+ReadsAs page n fs (Ok (Some f)) = Copy page n fs f.number f.offset

@@ -14,8 +14,8 @@
 mod find;
 mod list;
 
-pub use find::{FoundFrame, find_frame};
-pub use list::{Listed, list_frames};
-pub use wal_frame::{Frame, Next, next_frame};
-pub use wal_frames::{Commit, Scanned, Summary, scan};
-pub use wal_header::{Fault, Header, Opened, open};
+pub use find::{FoundFrame, OtherLog, find_frame};
+pub use list::{ListError, list_frames};
+pub use wal_frame::{Frame, next_frame};
+pub use wal_frames::{Commit, Summary, scan};
+pub use wal_header::{Fault, Header, open};

@@ -13,7 +13,7 @@ module _ {k : ℕ} {b c : List ℕ} (same : Agree k b c) where
   agree_number at within =
       rw (same.byte at (omega arith), same.byte (at + 1) (omega arith), same.byte (at + 2) (omega arith), same.byte (at + 3) (omega arith))
 
-  agree_word : (big : Bool) (at : ℕ) → at + 4 ≤ k → word big b at ≡ word big c at
+  pub agree_word : (big : Bool) (at : ℕ) → at + 4 ≤ k → word big b at ≡ word big c at
   unfolding little_endian
   agree_word true at within = agree_number at within
   agree_word false at within =

@@ -1,4 +1,5 @@
 pub mod Agreeing
+mod Same
 pub mod Shifting
 mod Summing
 mod Wrapping

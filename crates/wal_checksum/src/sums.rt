@@ -1,24 +1,16 @@
 // The two sums.
 ghost use Rattle.std.specs.Prelude.{◌≡◌, ◌+◌, ◌*◌, ◌≤◌, length};
-ghost use Rattle.wal_checksum.specs.Checksum.{same_sums, sums_at, paired, checksum};
+ghost use Rattle.wal_checksum.specs.Checksum.{sums_at, paired, checksum};
 
 use crate::number::{number_at, word_at};
-use std::num::wrapping_add_u32;
 
 // The running sums. Those of a frame go on from those of the frame before.
-#[derive(Clone, Copy)]
+#[derive(Clone, Copy, Debug, PartialEq, Eq)]
 pub struct Sums {
     // The sum of all words but the last, each with a Fibonacci number as its weight.
     pub s0: u32,
     // The same of all words.
     pub s1: u32,
-}
-
-// Whether two are the same.
-pub fn same(a: Sums, b: Sums) -> bool
-    ensures { result ≡ same_sums a b }
-{
-    (a.s0 == b.s0) & (a.s1 == b.s1)
 }
 
 // The sums that are stored at a place.
@@ -32,18 +24,16 @@ pub fn sums_at(bytes: &[u8], at: usize) -> Sums
     }
 }
 
-// The sums after `pairs` pairs of words, from place `at` on, that follow what `sums` has summed.
+// The sums after `pairs` pairs of words, from place `at` on, that follow what `sums` has summed. Each chunk of 8 bytes is a pair.
+// The place is one of the whole log, as in the definitions: of a part that is lent a caller would have to show that it has the
+// log's words.
 pub fn checksum(bytes: &[u8], at: usize, pairs: usize, big: bool, sums: Sums) -> Sums
     requires { at + 8 * pairs ≤ length bytes.now }
     ensures { result ≡ checksum big bytes.now at pairs sums }
 {
     let mut s = sums;
-    let mut next = at;
-    let mut left = pairs;
-    while left > 0 {
-        s = add_pair(word_at(bytes, next, big), word_at(bytes, next + 4, big), s);
-        next += 8;
-        left -= 1;
+    for pair in bytes[at..at + 8 * pairs].chunks_exact(8) {
+        s = add_pair(word_at(pair, 0, big), word_at(pair, 4, big), s);
     }
     s
 }
@@ -52,7 +42,7 @@ pub fn checksum(bytes: &[u8], at: usize, pairs: usize, big: bool, sums: Sums) ->
 fn add_pair(x: u32, y: u32, s: Sums) -> Sums
     ensures { result ≡ paired x y s }
 {
-    let s0 = wrapping_add_u32(s.s0, wrapping_add_u32(x, s.s1));
-    let s1 = wrapping_add_u32(s.s1, wrapping_add_u32(y, s0));
+    let s0 = s.s0.wrapping_add(x.wrapping_add(s.s1));
+    let s1 = s.s1.wrapping_add(y.wrapping_add(s0));
     Sums { s0, s1 }
 }

@@ -1,11 +1,9 @@
 -- A frame, from the document's sections 4.1 and 4.2 and item 2.
-use Rattle.std.specs.Prelude.{Bool, cond, ◌&&◌, List, ℕ, ◌+◌, ◌/◌, eqb, leb, length}
+use Rattle.std.specs.Prelude.{Bool, cond, ◌&&◌, List, ℕ, ◌+◌, ◌/◌, eqb, leb, length, Option, Some, None}
 use Rattle.wal_checksum.specs.Checksum.{big_endian, checksum, sums_at, same_sums}
 use Rattle.wal_checksum.specs.declared.sums.Sums.{Sums}
 use Rattle.wal_header.specs.declared.header.Header.{Header}
 use Rattle.wal_frame.specs.declared.frame.Frame.{Frame}
-use Rattle.wal_frame.specs.declared.frame.Next.{Next}
-use Rattle.wal_frame.specs.declared.frame.Next.TheVariants.{End, Valid}
 
 -- 'a 24-byte frame-header followed by a page-size bytes of page data'
 abbrev pub frame_length : Header → ℕ
@@ -27,5 +25,5 @@ sums_after h b at s = checksum h.big b (at + 24) (h.page_size / 8) (checksum h.b
 unfoldable pub valid : Header → List ℕ → (at : ℕ) → Sums → Bool
 valid h b at s = leb (at + frame_length h) (length b) && (salted h b at && same_sums (sums_after h b at s) (frame_at b at).sums)
 
-abbrev pub next_at : Header → List ℕ → (at : ℕ) → Sums → Next
-next_at h b at s = cond (valid h b at s) (Valid (frame_at b at)) End
+abbrev pub next_at : Header → List ℕ → (at : ℕ) → Sums → Option Frame
+next_at h b at s = cond (valid h b at s) (Some (frame_at b at)) None

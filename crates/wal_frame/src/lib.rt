@@ -10,4 +10,4 @@
 
 mod frame;
 
-pub use frame::{Frame, Next, frame_at, length, next_at, next_frame};
+pub use frame::{Frame, frame_at, length, next_at, next_frame};

@@ -6,6 +6,7 @@ use mathlib.Core.Bool.{Bool, true, false}
 use mathlib.Core.List.{List, [], ◌∷◌, ◌++◌}
 use Prim.Native.Nat.{ℕ, zero, suc, ◌+◌, ◌*◌, ◌≤◌, ◌<◌}
 use native.Mathlib.Omega.{arith}
+use Rattle.std.specs.Prelude.{Ok}
 use lib.Dec.{leb}
 use lib.ListN.{length, take, length-append, get_or-append}
 use lib.Seq.{get_or-take, length-take-le}
@@ -17,9 +18,7 @@ use Rattle.wal_frame.specs.Frame.{frame_length, frame_at, valid}
 use Rattle.wal_frames.specs.Scan.{frames, frames_in, start_of, tally, scanned}
 use Rattle.wal_frames.specs.Cut.{whole_before}
 use Rattle.wal_header.specs.declared.header.Header.{Header}
-use Rattle.wal_header.specs.declared.header.Opened.TheVariants.{Log}
 use Rattle.wal_frame.specs.declared.frame.Frame.{Frame}
-use Rattle.wal_frames.specs.declared.scanning.Scanned.TheVariants.{Read}
 use Rattle.wal_frame.proofs.Framing.{cut_off}
 use Rattle.wal_frame.proofs.Depending.{same_frame, same_valid}
 use Rattle.wal_frames.proofs.Turns.{frames_end, scanned_read}
@@ -106,8 +105,8 @@ module _ (b : List ℕ) (cut : ℕ) (within : cut ≤ length b) (after_header : 
       cut_frames h cut_agrees (omega arith) ∙ ap (λ (k : ℕ). whole_before k (frame_length h) 32 (frames_in h b)) long
 
   -- and so the whole answer: the same header, and those frames counted
-  pub cut_scan : {h : Header} → opened b ≡ Log h
-      → scanned (take cut b) ≡ Read (tally (start_of h) (whole_before cut (frame_length h) 32 (frames_in h b)))
+  pub cut_scan : {h : Header} → opened b ≡ Ok h
+      → scanned (take cut b) ≡ Ok (tally (start_of h) (whole_before cut (frame_length h) 32 (frames_in h b)))
   cut_scan {h} is = sym (scanned_read (take cut b) (cut_opened ∙ is) (sym (ap (λ (fs : List Frame). tally (start_of h) fs) (cut_keeps h))))
 
 -- ── what comes after ─────────────────────────────────────────────────────────
@@ -162,11 +161,11 @@ pub bad_frame_ends : (h : Header) {b c : List ℕ} {bad_end : ℕ} → bad_end �
 bad_frame_ends h {b} {c} is long long' same =
     ends_from h same long long' (length b) (length c) 32 h.sums (omega arith) (omega arith) (omega arith)
 
-pub bad_frame_scan : {h : Header} {b c : List ℕ} {bad_end : ℕ} → opened b ≡ Log h
+pub bad_frame_scan : {h : Header} {b c : List ℕ} {bad_end : ℕ} → opened b ≡ Ok h
     → bad_end ≡ 32 + length (frames_in h b) * frame_length h + frame_length h → bad_end ≤ length b → bad_end ≤ length c → Agree bad_end b c
     → scanned c ≡ scanned b
 bad_frame_scan {h} {b} {c} is ends long long' same =
     let header : opened c ≡ opened b =
     sym (same_header (record { byte = λ i below. same.byte i (omega arith) }) (omega arith) (omega arith)) in
     let frames_are : frames_in h c ≡ frames_in h b = bad_frame_ends h ends long long' same in
-    sym (scanned_read c (header ∙ is) refl) ∙ ap (λ (fs : List Frame). Read (tally (start_of h) fs)) frames_are ∙ scanned_read b is refl
+    sym (scanned_read c (header ∙ is) refl) ∙ ap (λ (fs : List Frame). Ok (tally (start_of h) fs)) frames_are ∙ scanned_read b is refl

@@ -1,16 +1,12 @@
 -- The scan of a log, from the document's sections 4.1 and 4.2 and item 2.
-use Rattle.std.specs.Prelude.{◌≡◌, Bool, cond, List, [], ◌∷◌, ℕ, zero, suc, ◌+◌, ◌^◌, ◌≤◌, ◌<◌, eqb, length}
+use Rattle.std.specs.Prelude.{cond, List, [], ◌∷◌, ℕ, zero, suc, ◌+◌, ◌^◌, ◌≤◌, ◌<◌, eqb, length, Some, None, Result, Ok, Err}
 use Rattle.wal_checksum.specs.declared.sums.Sums.{Sums}
 use Rattle.wal_header.specs.Header.{opened}
 use Rattle.wal_header.specs.declared.header.Header.{Header}
-use Rattle.wal_header.specs.declared.header.Opened.{Opened}
-use Rattle.wal_header.specs.declared.header.Opened.TheVariants.{Refused, Log}
+use Rattle.wal_header.specs.declared.header.Fault.{Fault}
 use Rattle.wal_frame.specs.Frame.{frame_length, frame_at, valid}
 use Rattle.wal_frame.specs.declared.frame.Frame.{Frame}
-use Rattle.wal_frames.specs.declared.scanning.Commit.TheVariants.{Nothing, At}
 use Rattle.wal_frames.specs.declared.scanning.Summary.{Summary}
-use Rattle.wal_frames.specs.declared.scanning.Scanned.{Scanned}
-use Rattle.wal_frames.specs.declared.scanning.Scanned.TheVariants.{Unread, Read}
 
 -- the valid frames from a place on, up to the first bad one, `most` at most; `s` are the sums of what comes before them
 unfoldable pub frames : Header → List ℕ → (most at : ℕ) → Sums → List Frame
@@ -24,7 +20,7 @@ frames_in h b = frames h b (length b) 32 h.sums
 
 -- the summary before the first frame
 abbrev pub start_of : Header → Summary
-start_of h = record { header = h; frames = 0; commits = 0; last = Nothing; end = 32; sums = h.sums }
+start_of h = record { header = h; frames = 0; commits = 0; last = None; end = 32; sums = h.sums }
 
 -- one valid frame more; a frame with a size is a commit
 unfoldable pub counted : Summary → Frame → Summary
@@ -32,7 +28,7 @@ counted s f = record {
   header = s.header;
   frames = s.frames + 1;
   commits = cond (eqb f.commit 0) s.commits (s.commits + 1);
-  last = cond (eqb f.commit 0) s.last (At (s.frames + 1) f.commit);
+  last = cond (eqb f.commit 0) s.last (Some (record { frame = s.frames + 1; pages = f.commit }));
   end = s.end + frame_length s.header;
   sums = f.sums;
 }
@@ -45,27 +41,16 @@ tally s (f ∷ fs) = tally (counted s f) fs
 abbrev pub scan_of : Header → List ℕ → Summary
 scan_of h b = tally (start_of h) (frames_in h b)
 
-abbrev pub scanned_as : Opened → List ℕ → Scanned
-scanned_as (Refused fault) b = Unread fault
-scanned_as (Log h) b = Read (scan_of h b)
+abbrev pub scanned_as : Result Header Fault → List ℕ → Result Summary Fault
+scanned_as (Err fault) b = Err fault
+scanned_as (Ok h) b = Ok (scan_of h b)
 
-abbrev pub scanned : List ℕ → Scanned
+abbrev pub scanned : List ℕ → Result Summary Fault
 scanned b = scanned_as (opened b) b
 
--- ── what the functions below the scan ask and answer ─────────────────────────
+-- ── what the functions below the scan ask ────────────────────────────────────
 -- one frame more can be counted in 64 bits
 pub record Countable (s : Summary) : Type 0 where
   pub room : s.end + frame_length s.header < 2 ^ 64
   pub few : s.frames ≤ s.end
   pub fewer : s.commits ≤ s.frames
-
--- a scan that is still within the log
-pub record Within (s : Summary) (b : List ℕ) : Type 0 where
-  pub within : s.end ≤ length b
-  pub few : s.frames ≤ s.end
-  pub fewer : s.commits ≤ s.frames
-
--- one look at the place that the scan has reached
-pub record Stepped (s : Summary) (b : List ℕ) (after : Summary) (more : Bool) : Type 0 where
-  pub tells : more ≡ valid s.header b s.end s.sums
-  pub moved : after ≡ cond more (counted s (frame_at b s.end)) s

@@ -9,4 +9,4 @@
 
 mod scanning;
 
-pub use scanning::{Commit, Scanned, Summary, add_frame, scan, start};
+pub use scanning::{Commit, Summary, add_frame, scan, start};

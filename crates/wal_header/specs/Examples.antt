@@ -1,8 +1,8 @@
 -- A header that sqlite3 wrote, and each fault that a change of it makes.
-use Rattle.std.specs.Prelude.{false, List, [], ◌∷◌, ℕ, set, take}
+use Rattle.std.specs.Prelude.{false, List, [], ◌∷◌, ℕ, set, take, Result, Ok, Err}
+use Rattle.wal_header.specs.declared.header.Fault.{Fault}
 use Rattle.wal_header.specs.declared.header.Fault.TheVariants.{Length, Magic, Version, PageSize, Checksum}
-use Rattle.wal_header.specs.declared.header.Opened.{Opened}
-use Rattle.wal_header.specs.declared.header.Opened.TheVariants.{Refused, Log}
+use Rattle.wal_header.specs.declared.header.Header.{Header}
 
 abbrev pub written : List ℕ
 written =
@@ -11,17 +11,17 @@ written =
 
 pub record Example : Type 0 where
   pub bytes : List ℕ
-  pub answer : Opened
+  pub answer : Result Header Fault
 
-abbrev pub example : List ℕ → Opened → Example
-example b o = record { bytes = b; answer = o }
+abbrev pub example : List ℕ → Result Header Fault → Example
+example b a = record { bytes = b; answer = a }
 
 -- as it is; a byte short; magic 0x377f0684; version 3007001; page size 256 and 131,072; a salt's bit, and a sum's, turned
 abbrev pub examples : List Example
 examples =
     example
     written
-    (Log
+    (Ok
     (record {
       big = false;
       page_size = 512;
@@ -30,11 +30,11 @@ examples =
       salt2 = 2032948186;
       sums = record { s0 = 919441957; s1 = 3371865667 };
     }))
-    ∷ example (take 31 written) (Refused Length)
-    ∷ example (set written 3 132) (Refused Magic)
-    ∷ example (set written 7 25) (Refused Version)
-    ∷ example (set written 10 1) (Refused PageSize)
-    ∷ example (set (set written 9 2) 10 0) (Refused PageSize)
-    ∷ example (set written 16 19) (Refused Checksum)
-    ∷ example (set written 31 66) (Refused Checksum)
+    ∷ example (take 31 written) (Err Length)
+    ∷ example (set written 3 132) (Err Magic)
+    ∷ example (set written 7 25) (Err Version)
+    ∷ example (set written 10 1) (Err PageSize)
+    ∷ example (set (set written 9 2) 10 0) (Err PageSize)
+    ∷ example (set written 16 19) (Err Checksum)
+    ∷ example (set written 31 66) (Err Checksum)
     ∷ []

@@ -1,12 +1,11 @@
 -- The header of a log, from the document's section 4.1 and item 2.
-use Rattle.std.specs.Prelude.{Bool, cond, not, ◌||◌, List, ℕ, eqb, ltb, length}
+use Rattle.std.specs.Prelude.{Bool, cond, not, ◌||◌, List, ℕ, eqb, ltb, length, codes, Result, Ok, Err}
 use Rattle.page_size.specs.PageSize.{is_page_size}
 use Rattle.wal_checksum.specs.Checksum.{big_endian, checksum, sums_at, same_sums}
 use Rattle.wal_checksum.specs.declared.sums.Sums.{Sums}
 use Rattle.wal_header.specs.declared.header.Header.{Header}
+use Rattle.wal_header.specs.declared.header.Fault.{Fault}
 use Rattle.wal_header.specs.declared.header.Fault.TheVariants.{Length, Magic, Version, PageSize, Checksum}
-use Rattle.wal_header.specs.declared.header.Opened.{Opened}
-use Rattle.wal_header.specs.declared.header.Opened.TheVariants.{Refused, Log}
 
 -- 'Magic number.  0x377f0682 or 0x377f0683'; the second chooses big-endian words
 abbrev pub is_big : ℕ → Bool
@@ -31,10 +30,18 @@ header_of b = record {
 }
 
 -- refused by its first fault: length, magic, version, page size, checksum
-unfoldable pub opened : List ℕ → Opened
+unfoldable pub opened : List ℕ → Result Header Fault
 opened b =
-    cond (ltb (length b) 32) (Refused Length)
-    (cond (not (is_magic (big_endian b 0))) (Refused Magic)
-    (cond (not (eqb (big_endian b 4) 3007000)) (Refused Version)
-    (cond (not (is_page_size (big_endian b 8))) (Refused PageSize)
-    (cond (not (same_sums (header_sums b) (sums_at b 24))) (Refused Checksum) (Log (header_of b))))))
+    cond (ltb (length b) 32) (Err Length)
+    (cond (not (is_magic (big_endian b 0))) (Err Magic)
+    (cond (not (eqb (big_endian b 4) 3007000)) (Err Version)
+    (cond (not (is_page_size (big_endian b 8))) (Err PageSize)
+    (cond (not (same_sums (header_sums b) (sums_at b 24))) (Err Checksum) (Ok (header_of b))))))
+
+-- the fault's name, as it is printed
+abbrev pub name : Fault → List ℕ
+name Length = codes "length"
+name Magic = codes "magic"
+name Version = codes "version"
+name PageSize = codes "page size"
+name Checksum = codes "checksum"

@@ -9,4 +9,4 @@
 
 mod header;
 
-pub use header::{Fault, HEADER_LENGTH, Header, Opened, open};
+pub use header::{Fault, HEADER_LENGTH, Header, open};

@@ -1,11 +1,7 @@
--- Each turn is a record, and the next one finds sound memory. The measure is the number of records left.
-use Prim.Native.Nat.{◌-◌}
-use Rattle.bench_calls.proofs.Running.{Running}
+-- Each turn is a record, and the next one finds sound memory.
+use Rattle.memory.specs.Memory.{memory_in}
+use Rattle.memory.specs.Holds.{Sound}
 use Rattle.bench_calls.proofs.run_each.Given as goal
 
-abbrev pub invariant-loop-i : goal.invariant-loop-i
-invariant-loop-i l =
-    Running l.initial.slots l.initial.by_key l.initial.by_handle l.initial.marks l.initial.list l.slots l.by_key l.by_handle l.marks l.list l.now l.i l.count
-
-abbrev pub decreases-loop-i : goal.decreases-loop-i
-decreases-loop-i l = l.count - l.i
+abbrev pub invariant-loop-bytes : goal.invariant-loop-bytes
+invariant-loop-bytes l = Sound (memory_in l.memory) l.now

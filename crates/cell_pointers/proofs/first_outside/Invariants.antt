@@ -1,12 +1,9 @@
--- The pointers are looked at one after another, each by one test (proofs/Wrapping.antt).
-use Rattle.std.proofs.Common.{◌≡◌, ℕ, ◌+◌, ◌-◌, ◌*◌}
+-- The pointers are looked at one after another.
+use Rattle.std.proofs.Common.{ℕ, ◌+◌, ◌*◌}
 use Rattle.btree_format.specs.Fields.{half}
 use Rattle.btree_format.specs.Rules.{Inside}
 use Rattle.btree_format.proofs.Searching.{Looked}
 use Rattle.cell_pointers.proofs.first_outside.Given as goal
 
 abbrev pub invariant-loop-i : goal.invariant-loop-i
-invariant-loop-i l = Looked (λ (j : ℕ). Inside l.start l.end (half l.image (l.array + 2 * j))) l.count l.i × (l.at ≡ l.array + 2 * l.i)
-
-abbrev pub decreases-loop-i : goal.decreases-loop-i
-decreases-loop-i l = l.count - l.i
+invariant-loop-i l = Looked (λ (j : ℕ). Inside l.start l.end (half l.image (l.array + 2 * j))) l.count l.i

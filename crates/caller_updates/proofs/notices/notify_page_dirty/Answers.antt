@@ -1,16 +1,9 @@
 -- The estimate follows the notice, or nothing changes.
-use mathlib.Core.Path.{refl, sym, ◌∙◌}
+use borrow.Author.Rules.{rules}
 use Rattle.model.specs.Cache.{down}
-use Rattle.answer.proofs.Steps.{follows_told}
-use Rattle.caller_updates.proofs.Heads.{dirty_is, notice_missed, notice_taken}
+use Rattle.answer.proofs.Steps.{follows_as}
+use Rattle.caller_updates.proofs.Heads.{dirty_is}
 use Rattle.caller_updates.proofs.notices.notify_page_dirty.Goals as goal
 
-pub returns-then-not-takes_notice : goal.returns-then-not-takes_notice
-returns-then-not-takes_notice c = λ by_handle marks w H.
-    follows_told c.plain.ensures
-    (notice_missed H down _ (dirty_is _ w) (sym (c.takes_notice.ensures _ _ _ w H refl) ∙ c.if-not-takes_notice.true))
-
 pub returns : goal.returns
-returns c = λ by_handle marks w H.
-    follows_told c.plain-2.ensures
-    (notice_taken H down _ (dirty_is _ w) (sym (c.takes_notice.ensures _ _ _ w H refl) ∙ c.if-not-takes_notice.false) c.count_down.ensures)
+returns c = λ by_handle marks w H. follows_as (dirty_is _ w) (c.notify.ensures down (λ n e. search rules) by_handle marks w H)

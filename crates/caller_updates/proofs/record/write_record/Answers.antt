@@ -15,9 +15,9 @@ returns-in_default c = λ by_handle marks w H.
 pub rewrite_at-requires : goal.rewrite_at-requires
 rewrite_at-requires c =
     let H = c.requires.sound.holds in
-    record { slot = slot_inside H (c.in-At.ensures.seat _ _ _ _ H refl).stands; flags = c.if-page-gt-ALL_FLAGS.false }
+    record { slot = slot_inside H (c.in-Ok.ensures.seat _ _ _ _ H refl).stands; flags = c.if-page-gt-ALL_FLAGS.false }
 
 pub returns : goal.returns
 returns c = λ by_handle marks w H.
-    let at = (c.in-At.ensures.seat by_handle marks _ w H refl).stands in
+    let at = (c.in-Ok.ensures.seat by_handle marks _ w H refl).stands in
     follows_told c.plain-2.ensures (write_there H _ _ c.if-page-gt-ALL_FLAGS.false at (c.rewrite_at.ensures _ _ _ _ w _ _ H at))

@@ -1,5 +1,5 @@
 -- The head alone says whether spilling is on.
-use mathlib.Core.Path.{◌≡◌, refl}
+use mathlib.Core.Path.{◌≡◌, refl, ◌∙◌}
 use mathlib.Core.Bool.{Bool, true, false, cond}
 use mir.Val.{bool_byte}
 use Rattle.answer.proofs.Steps.{follows_told}
@@ -12,4 +12,4 @@ switch_is true = refl
 switch_is false = refl
 
 pub returns : goal.returns
-returns c = λ m w H. follows_told c.plain.ensures (switch_follows H _ (switch_is c.args.on))
+returns c = λ m w H. follows_told c.plain.ensures (switch_follows H _ (c.from.ensures ∙ switch_is c.args.on))

@@ -1,9 +1,11 @@
 -- The handles are listed, and the memory is then as after creation.
-use Rattle.clearing.proofs.Emptied.{never_refused, says_done, clear_emptied}
+use Rattle.clearing.proofs.Emptied.{never_refused, made_well, clear_emptied}
+use Rattle.clearing.proofs.Turns.{walk_seen}
 use Rattle.clearing.proofs.clearing.empty.Goals as goal
 
-pub returns-in_default : goal.returns-in_default
-returns-in_default c = λ w H. absurd (c.in_default.not-Done _ (never_refused H _ c.create.result c.create.ensures).done)
+pub returns-in_default-clause-outcome : goal.returns-in_default-clause-outcome
+returns-in_default-clause-outcome c = λ w H. absurd (c.in_default.not-Ok _ (never_refused H _ c.create.result c.create.ensures.made).done)
 
-pub returns : goal.returns
-returns c = λ w H. clear_emptied H (says_done _ _ _ _ c.in-Done.is c.create.ensures) c.list_handles.ensures
+pub returns-clause-outcome : goal.returns-clause-outcome
+returns-clause-outcome c = λ w H.
+    clear_emptied H (made_well c.in-Ok.ensures.made) (rw (walk_seen c.args.head.held c.view.ensures) at c.list_handles.ensures)

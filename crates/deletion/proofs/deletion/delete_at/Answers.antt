@@ -5,10 +5,10 @@ use Rattle.answer.proofs.Steps.{comes_told}
 use Rattle.deletion.proofs.Deleting.{goes_comes, stays_comes}
 use Rattle.deletion.proofs.deletion.delete_at.Goals as goal
 
-pub returns-in-Deleted : goal.returns-in-Deleted
-returns-in-Deleted c = λ w key e H at. goes_comes c.args.done c.requires.within (c.in-Deleted.ensures w key e H at)
+pub returns-in-Ok-clause-outcome : goal.returns-in-Ok-clause-outcome
+returns-in-Ok-clause-outcome c = λ w key e H at. goes_comes c.args.done c.requires.within (c.in-Ok.ensures.outcome w key e H at)
 
-pub returns-in-Refused : goal.returns-in-Refused
-returns-in-Refused c = λ w key e H at.
+pub returns-in-Err-clause-outcome : goal.returns-in-Err-clause-outcome
+returns-in-Err-clause-outcome c = λ w key e H at.
     comes_told c.plain.ensures
-    (stays_comes (answer (code_of c.args.done) (value_of c.args.done)) H (c.in-Refused.ensures w key e H at))
+    (stays_comes (answer (code_of c.args.done) (value_of c.args.done)) H (c.in-Err.ensures.outcome w key e H at))

@@ -23,24 +23,33 @@ ran_quiet : {asked : Record} {slots by_key by_handle marks list slots' : List �
     → Ran asked (lent (memory_of slots by_key by_handle marks) list) head (lent (memory_of slots' by_key by_handle marks) list) r
 ran_quiet k x stands quiet is follows = ran_call k x stands is (λ d h. quiet_comes quiet d (follows _ _ d h))
 
-pub returns-in-5 : goal.returns-in-5
-returns-in-5 c = ran_quiet 5 _ refl (quiet_peek _ _) c.in-5.is c.peek.ensures
+pub returns-in-1-clause-ran : goal.returns-in-1-clause-ran
+returns-in-1-clause-ran c = ran_call 1 _ refl c.in-1.is (rw c.page_of.ensures at c.insert_page.ensures.outcome)
+
+pub returns-in-2-clause-ran : goal.returns-in-2-clause-ran
+returns-in-2-clause-ran c = ran_call 2 _ refl c.in-2.is (rw c.page_of-in-2.ensures at c.insert_page-in-2.ensures.outcome)
+
+pub returns-in-3-clause-ran : goal.returns-in-3-clause-ran
+returns-in-3-clause-ran c = ran_call 3 _ refl c.in-3.is (rw c.page_of-in-3.ensures at c.insert_page-in-3.ensures.outcome)
+
+pub returns-in-5-clause-ran : goal.returns-in-5-clause-ran
+returns-in-5-clause-ran c = ran_quiet 5 _ refl (quiet_peek _ _) c.in-5.is c.peek.ensures
 
 -- what the call promised is found by the search, and not named: with the two arms swapped it is no longer there to be found
-pub returns-in-11 : goal.returns-in-11
-returns-in-11 c = ran_quiet 11 _ refl (quiet_dirty _) c.in-11.is (search rules)
+pub returns-in-11-clause-ran : goal.returns-in-11-clause-ran
+returns-in-11-clause-ran c = ran_quiet 11 _ refl (quiet_dirty _) c.in-11.is (search rules)
 
-pub returns-in-12 : goal.returns-in-12
-returns-in-12 c = ran_quiet 12 _ refl (quiet_spilled _) c.in-12.is (search rules)
+pub returns-in-12-clause-ran : goal.returns-in-12-clause-ran
+returns-in-12-clause-ran c = ran_quiet 12 _ refl (quiet_spilled _) c.in-12.is (search rules)
 
-pub returns-in-13 : goal.returns-in-13
-returns-in-13 c = ran_quiet 13 _ refl (quiet_write _ _) c.in-13.is c.write_record.ensures
+pub returns-in-13-clause-ran : goal.returns-in-13-clause-ran
+returns-in-13-clause-ran c = ran_quiet 13 _ refl (quiet_write _ _) c.in-13.is c.write_record.ensures
 
-pub returns-in-14 : goal.returns-in-14
-returns-in-14 c = ran_call 14 _ refl c.in-14.is (λ d h. c.check_spill.ensures _ _ d h)
+pub returns-in-14-clause-ran : goal.returns-in-14-clause-ran
+returns-in-14-clause-ran c = ran_call 14 _ refl c.in-14.is (λ d h. c.check_spill.ensures _ _ d h)
 
-pub returns-in-16 : goal.returns-in-16
-returns-in-16 c = ran_call 16 _ refl c.in-16.is (λ d h. quiet_comes (quiet_switch _) d (c.set_spill_enabled.ensures _ d h))
+pub returns-in-16-clause-ran : goal.returns-in-16-clause-ran
+returns-in-16-clause-ran c = ran_call 16 _ refl c.in-16.is (λ d h. quiet_comes (quiet_switch _) d (c.set_spill_enabled.ensures _ d h))
 
-pub returns-in-17 : goal.returns-in-17
-returns-in-17 c = ran_quiet 17 _ refl (quiet_release _) c.in-17.is c.release_page.ensures
+pub returns-in-17-clause-ran : goal.returns-in-17-clause-ran
+returns-in-17-clause-ran c = ran_quiet 17 _ refl (quiet_release _) c.in-17.is c.release_page.ensures

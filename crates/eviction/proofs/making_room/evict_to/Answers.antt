@@ -1,36 +1,36 @@
 -- Each turn is an eviction: a page goes and its handle is listed, or none may go and the loop ends there. The measure is the
 -- number of pages held.
+use mathlib.Core.Path.{refl}
+use borrow.Author.Rules.{rules}
 use native.Mathlib.Omega.{arith}
 use Rattle.eviction.proofs.EvictLoop.{evict_loop_start, evict_loop_done, evict_loop_occupied, evict_loop_held, evict_loop_sum, evict_loop_took, evict_loop_full_sum, evict_loop_full}
 use Rattle.eviction.proofs.making_room.evict_to.Goals as goal
 
-pub loop-left-init : goal.loop-left-init
-loop-left-init c = evict_loop_start c.args.target c.requires
+pub loop-room-init : goal.loop-room-init
+loop-room-init c = (evict_loop_start c.args.target c.requires, refl, search rules)
 
 pub evict_one-requires : goal.evict_one-requires
-evict_one-requires c = evict_loop_occupied c.loop-left.invariant c.loop-left-test.true
+evict_one-requires c = evict_loop_occupied c.loop-room.invariant.0 c.loop-room-test.true
 
-pub overflow_add-sum : goal.overflow_add-sum
-overflow_add-sum c =
-    omega (arith, evict_loop_full_sum c.loop-left.invariant c.loop-left-test.true (λ w H. c.in-Full.ensures w H))
+pub overflow_add-room-in-Err : goal.overflow_add-room-in-Err
+overflow_add-room-in-Err c =
+    omega (arith, evict_loop_full_sum c.loop-room.invariant.0 c.loop-room-test.true c.in-Err.ensures.outcome)
 
-pub returns-in-Full : goal.returns-in-Full
-returns-in-Full c =
-    evict_loop_full c.loop-left.invariant c.loop-left-test.true (λ w H. c.in-Full.ensures w H)
+pub returns-in-Err-clause-outcome : goal.returns-in-Err-clause-outcome
+returns-in-Err-clause-outcome c =
+    evict_loop_full c.loop-room.invariant.0 c.loop-room-test.true c.in-Err.ensures.outcome
 
-pub overflow_add-passed : goal.overflow_add-passed
-overflow_add-passed c =
-    omega (arith, evict_loop_sum c.loop-left.invariant c.loop-left-test.true (λ w H. c.in-Took.ensures w H))
+pub overflow_add-room-in-Ok : goal.overflow_add-room-in-Ok
+overflow_add-room-in-Ok c =
+    omega (arith, evict_loop_sum c.loop-room.invariant.0 c.loop-room-test.true c.in-Ok.ensures.outcome)
 
-pub loop-left-smaller : goal.loop-left-smaller
-loop-left-smaller c =
-    omega (arith, evict_loop_held c.loop-left.invariant c.loop-left-test.true (λ w H. c.in-Took.ensures w H))
+pub loop-room-smaller : goal.loop-room-smaller
+loop-room-smaller c =
+    omega (arith, evict_loop_held c.loop-room.invariant.0 c.loop-room-test.true c.in-Ok.ensures.outcome)
 
-pub loop-left-preserved : goal.loop-left-preserved
-loop-left-preserved c =
-    evict_loop_took c.loop-left.invariant c.loop-left-test.true
-    (λ w H. c.in-Took.ensures w H)
-    (record { slots = c.evict_one.auto.slots; by_key = c.evict_one.auto.by_key; by_handle = c.evict_one.auto.by_handle; marks = c.evict_one.auto.marks })
+pub loop-room-preserved : goal.loop-room-preserved
+loop-room-preserved c =
+    (evict_loop_took c.loop-room.invariant.0 c.loop-room-test.true c.in-Ok.ensures.outcome, c.loop-room.invariant.1, search rules)
 
-pub returns : goal.returns
-returns c = evict_loop_done c.loop-left.invariant c.loop-left-test.false
+pub returns-clause-outcome : goal.returns-clause-outcome
+returns-clause-outcome c = evict_loop_done c.loop-room.invariant.0 c.loop-room.invariant.1 c.loop-room-test.false

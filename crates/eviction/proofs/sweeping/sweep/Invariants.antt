@@ -1,11 +1,6 @@
--- Each turn is a look: it passes the page, and the loop is one look further, or takes it. The measure is the number of looks
--- that are left.
-use Prim.Native.Nat.{◌-◌}
+-- Each turn is a look: it passes the page, and the loop is one look further, or takes it.
 use Rattle.eviction.proofs.SweepLoop.{Going}
 use Rattle.eviction.proofs.sweeping.sweep.Given as goal
 
 abbrev pub invariant-loop-passed : goal.invariant-loop-passed
 invariant-loop-passed l = Going l.initial.slots l.initial.at l.held l.slots l.at l.passed
-
-abbrev pub decreases-loop-passed : goal.decreases-loop-passed
-decreases-loop-passed l = l.limit - l.passed

@@ -1,12 +1,7 @@
 -- No word that the loop passed has a free slot, so that it can't pass the free slot that there is. The word at which it stops isn't 0,
 -- and its trailing zeros say which slot is the lowest.
-use Prim.Native.Nat.{◌-◌}
-use lib.ListN.{length}
 use Rattle.free_marks.proofs.Searching.{HeldBefore}
 use Rattle.free_marks.proofs.marks.lowest_free.Given as goal
 
-abbrev pub invariant-loop-first : goal.invariant-loop-first
-invariant-loop-first l = HeldBefore l.marks l.first
-
-abbrev pub decreases-loop-first : goal.decreases-loop-first
-decreases-loop-first l = length l.marks - l.first
+abbrev pub invariant-loop-w : goal.invariant-loop-w
+invariant-loop-w l = HeldBefore l.marks l.w

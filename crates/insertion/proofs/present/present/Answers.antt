@@ -1,4 +1,5 @@
 -- What the mode decides, and then the two handles.
+use borrow.Author.Rules.{rules}
 use mathlib.Core.Path.{sym, ◌∙◌}
 use Rattle.insertion.proofs.Presents.{present_inside, touched_replaceable, presents_replaced, presents_other, presents_same}
 use Rattle.insertion.proofs.present.present.Goals as goal
@@ -16,11 +17,11 @@ pub returns-then-replaces : goal.returns-then-replaces
 returns-then-replaces c =
     rw c.plain.ensures (presents_replaced c.load.ensures (sym c.replaces.ensures ∙ c.if-replaces.true) c.touch_at.ensures c.replace_at-after.ensures)
 
-pub returns-then-old-asked : goal.returns-then-old-asked
-returns-then-old-asked c = rw c.plain-then-old-asked.ensures (presents_other c.load.ensures (sym c.replaces.ensures ∙ c.if-replaces.false) c.if-old-asked.true)
+pub returns-then-ne : goal.returns-then-ne
+returns-then-ne c = rw c.plain-then-ne.ensures (presents_other c.load.ensures (sym c.replaces.ensures ∙ c.if-replaces.false) (search rules))
 
 pub touch_at-requires-2 : goal.touch_at-requires-2
 touch_at-requires-2 c = present_inside c.requires
 
 pub returns : goal.returns
-returns c = rw c.plain-2.ensures (presents_same c.load.ensures (sym c.replaces.ensures ∙ c.if-replaces.false) c.if-old-asked.false c.touch_at-2.ensures)
+returns c = rw c.plain-2.ensures (presents_same c.load.ensures (sym c.replaces.ensures ∙ c.if-replaces.false) (search rules) c.touch_at-2.ensures)

@@ -6,13 +6,13 @@ pub delete_page-requires : goal.delete_page-requires
 delete_page-requires c = stale_deletable c.requires
 
 pub find_gaps-gaps-requires : goal.find_gaps-gaps-requires
-find_gaps-gaps-requires c = stale_unseated (λ w k e H at. c.in-Deleted.ensures w k e H at) c.requires
+find_gaps-gaps-requires c = rw c.view.ensures (stale_unseated c.in-Ok.ensures.outcome c.requires)
 
 pub admit-requires : goal.admit-requires
-admit-requires c = stale_admissible (λ w k e H at. c.in-Deleted.ensures w k e H at) c.requires c.delete_page.auto.list c.find_gaps-gaps.ensures
+admit-requires c = stale_admissible c.in-Ok.ensures.outcome c.requires c.delete_page.auto.list (rw c.view.ensures at c.find_gaps-gaps.ensures)
 
-pub returns-in-Refused : goal.returns-in-Refused
-returns-in-Refused c = rw c.plain.ensures (stale_refused (λ w k e H at. c.in-Refused.ensures w k e H at))
+pub returns-in-Err-clause-outcome : goal.returns-in-Err-clause-outcome
+returns-in-Err-clause-outcome c = rw c.plain.ensures (stale_refused c.in-Err.ensures.outcome)
 
-pub returns-in-Deleted : goal.returns-in-Deleted
-returns-in-Deleted c = stale_admitted (λ w k e H at. c.in-Deleted.ensures w k e H at) c.requires c.admit.ensures
+pub returns-in-Ok-clause-outcome : goal.returns-in-Ok-clause-outcome
+returns-in-Ok-clause-outcome c = stale_admitted c.in-Ok.ensures.outcome c.requires c.admit.ensures.outcome

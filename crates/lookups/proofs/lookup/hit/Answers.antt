@@ -18,7 +18,7 @@ rewrite_at-requires c = record {
 pub returns-then-not-touch : goal.returns-then-not-touch
 returns-then-not-touch c = λ by_key by_handle marks w key e H at.
     follows_told c.plain-found.ensures
-    (hit_seen H at c.requires.loaded c.args.touch c.one_holder_more.ensures c.in-Now.is c.with_holders.ensures c.if-not-touch.true
+    (hit_seen H at c.requires.loaded c.args.touch c.one_holder_more.ensures c.in-Some.is c.with_holders.ensures c.if-not-touch.true
     (c.rewrite_at.ensures by_key by_handle marks _ w key e H at))
 
 pub touch_at-requires : goal.touch_at-requires
@@ -28,5 +28,5 @@ touch_at-requires c =
 pub returns : goal.returns
 returns c = λ by_key by_handle marks w key e H at.
     follows_told c.plain-found.ensures
-    (hit_touched H at c.requires.loaded c.args.touch c.one_holder_more.ensures c.in-Now.is c.with_holders.ensures c.if-not-touch.false
+    (hit_touched H at c.requires.loaded c.args.touch c.one_holder_more.ensures c.in-Some.is c.with_holders.ensures c.if-not-touch.false
     (c.touch_at.ensures by_key by_handle marks _ _ key _ (c.rewrite_at.ensures by_key by_handle marks _ w key e H at) (stands_rewritten _ at)))

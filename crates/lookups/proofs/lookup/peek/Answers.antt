@@ -11,14 +11,14 @@ returns-in_default c = λ by_handle marks w H. follows_told c.plain.ensures (pee
 pub load-e-requires : goal.load-e-requires
 load-e-requires c =
     let H = c.requires.sound.holds in
-    slot_inside H (c.in-At.ensures.seat _ _ _ _ H refl).stands
+    slot_inside H (c.in-Ok.ensures.seat _ _ _ _ H refl).stands
 
 pub hit-requires : goal.hit-requires
 hit-requires c =
     let H = c.requires.sound.holds in
-    can_hit H (c.in-At.ensures.seat _ _ _ _ H refl).stands c.load-e.ensures
+    can_hit H (c.in-Ok.ensures.seat _ _ _ _ H refl).stands c.load-e.ensures
 
 pub returns : goal.returns
 returns c = λ by_handle marks w H.
-    let at = (c.in-At.ensures.seat by_handle marks _ w H refl).stands in
+    let at = (c.in-Ok.ensures.seat by_handle marks _ w H refl).stands in
     follows_as (peek_found_lem _ w at.found _) (c.hit.ensures _ by_handle marks w _ _ H at)

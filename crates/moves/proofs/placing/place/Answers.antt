@@ -21,8 +21,8 @@ seat-requires c = free_seatable c.requires.holds c.lowest_free-s.ensures
 pub head_with-requires : goal.head_with-requires
 head_with-requires c = held_small c.requires.holds c.requires.room
 
-pub returns : goal.returns
-returns c = λ w H names. placed H c.requires.right c.requires.flags (record {
+pub returns-clause-placed : goal.returns-clause-placed
+returns-clause-placed c = λ w H names. placed H c.requires.right c.requires.flags (record {
   slot = c.lowest_free-s.result;
   estimate = c.count_in-estimate.result;
   entry = c.new-e.result;

@@ -22,8 +22,8 @@ mark_free-requires c = slot_marked c.requires.holds c.requires.stands
 pub head_without-requires : goal.head_without-requires
 head_without-requires c = some_held c.requires.holds c.requires.stands
 
-pub returns : goal.returns
-returns c = λ w key e H at. removed H at (record {
+pub returns-clause-removed : goal.returns-clause-removed
+returns-clause-removed c = λ w key e H at. removed H at (record {
   stored = c.load-e.result;
   after = c.unlink-after.result;
   estimate = c.count_out-estimate.result;

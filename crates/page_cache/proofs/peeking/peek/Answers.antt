@@ -9,5 +9,5 @@ use Rattle.page_cache.proofs.peeking.peek.Goals as goal
 
 pub returns : goal.returns
 returns c =
-    call_acted c.is_sound.ensures (lent_typed (λ k. search rules) (λ k. search rules) (omega (arith, c.well_formed)))
+    call_acted c.is_sound.ensures.decides (lent_typed (λ k. search rules) (λ k. search rules) (omega (arith, c.well_formed)))
     (record { each = λ k. search rules }) (ap not c.if-not-is_sound.false) (λ d h. quiet_comes (quiet_peek _ _) d (c.peek.ensures _ _ d h))

@@ -1,12 +1,15 @@
 -- The memory is tested, and the call is refused or comes to the model's step.
-use Rattle.std.proofs.Common.{ap}
-use borrow.Author.Rules.{rules}
+use Rattle.std.proofs.Common.{ap, refl}
 use native.Mathlib.Omega.{arith}
-use Rattle.contract.proofs.Calling.{lent_typed, call_acted}
 use mathlib.Core.Bool.{not}
+use Rattle.contract.proofs.Calling.{tested_refused, tested_acted}
 use Rattle.page_cache.proofs.selecting.check_spill.Goals as goal
+
+pub returns-then-not-is_sound : goal.returns-then-not-is_sound
+returns-then-not-is_sound c =
+    tested_refused refl c.is_sound.ensures.decides c.is_sound.ensures.words (omega (arith, c.well_formed)) (ap not c.if-not-is_sound.true) c.plain.ensures
 
 pub returns : goal.returns
 returns c =
-    call_acted c.is_sound.ensures (lent_typed (λ k. search rules) (λ k. search rules) (omega (arith, c.well_formed)))
-    (record { each = λ k. search rules }) (ap not c.if-not-is_sound.false) (λ d h. c.check_spill.ensures _ _ d h)
+    tested_acted refl c.is_sound.ensures.decides c.is_sound.ensures.words (omega (arith, c.well_formed)) c.is_sound.ensures.words
+    (ap not c.if-not-is_sound.false) (λ d h. c.check_spill.ensures _ _ d h)

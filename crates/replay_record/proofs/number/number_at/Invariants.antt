@@ -2,8 +2,5 @@
 use Rattle.replay_record.proofs.Reading.{Read}
 use Rattle.replay_record.proofs.number.number_at.Given as goal
 
-abbrev pub invariant-loop-left : goal.invariant-loop-left
-invariant-loop-left l = Read l.bytes l.at l.width l.left l.n
-
-abbrev pub decreases-loop-left : goal.decreases-loop-left
-decreases-loop-left l = l.left
+abbrev pub invariant-loop-i : goal.invariant-loop-i
+invariant-loop-i l = Read l.bytes l.at l.width l.i l.n

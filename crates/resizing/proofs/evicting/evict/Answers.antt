@@ -5,9 +5,9 @@ use Rattle.model.specs.Step.{act}
 use Rattle.answer.proofs.Tested.{comes_short, comes_acts}
 use Rattle.resizing.proofs.evicting.evict.Goals as goal
 
-pub returns-then-list-head : goal.returns-then-list-head
-returns-then-list-head c = λ w H. rw c.plain.ensures (comes_short (evict_one _) H refl c.if-list-head.true)
+pub returns-then-list-head-clause-outcome : goal.returns-then-list-head-clause-outcome
+returns-then-list-head-clause-outcome c = λ w H. rw c.plain.ensures (comes_short (evict_one _) H refl c.if-list-head.true)
 
-pub returns : goal.returns
+pub returns-clause-outcome : goal.returns-clause-outcome
 unfolding act
-returns c = λ w H. comes_acts (evict_one _) H refl c.if-list-head.false (c.evict_listed.ensures w H)
+returns-clause-outcome c = λ w H. comes_acts (evict_one _) H refl c.if-list-head.false (c.evict_listed.ensures.outcome w H)

@@ -8,4 +8,4 @@ returns-in_default c = λ before s after l apart held named. absurd (miss_absent
 
 pub returns : goal.returns
 returns c = λ before s after l apart held named.
-    c.unlist_at.ensures _ before s after l apart held (hit_is l held c.in-Here.ensures (mid_has before s after) named)
+    c.unlist_at.ensures _ before s after l apart held (hit_is l held c.in-Ok.ensures (mid_has before s after) named)

@@ -3,9 +3,9 @@ use native.Mathlib.Omega.{arith}
 use Rattle.sorted_index.proofs.Listed.{hit_seat}
 use Rattle.sorted_index.proofs.search.gap.Goals as goal
 
-pub returns-in-Here : goal.returns-in-Here
-returns-in-Here c =
+pub returns-in-Ok : goal.returns-in-Ok
+returns-in-Ok c =
     record {
-      place = omega (arith, c.in-Here.ensures.within);
-      miss = λ seats l held absent. absurd (absent _ (hit_seat l held c.in-Here.ensures) c.in-Here.ensures.same);
+      place = omega (arith, c.in-Ok.ensures.within);
+      miss = λ seats l held absent. absurd (absent _ (hit_seat l held c.in-Ok.ensures) c.in-Ok.ensures.same);
     }

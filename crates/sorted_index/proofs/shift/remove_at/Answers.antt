@@ -1,13 +1,6 @@
--- Each turn lowers one element by a place, from the one after place `at` to the last, whose place is then zeroed.
-use borrow.Author.Rules.{rules}
-use Rattle.sorted_index.proofs.Shifting.{lowering_none, lowering_more, lowering_put}
+-- What stands after place `at` is copied one place down, and the last place is zeroed.
+use Rattle.sorted_index.proofs.Shifting.{taken_out}
 use Rattle.sorted_index.proofs.shift.remove_at.Goals as goal
 
-pub loop-i-init : goal.loop-i-init
-loop-i-init c = lowering_none (search rules) (search rules)
-
-pub loop-i-preserved : goal.loop-i-preserved
-loop-i-preserved c = lowering_more c.loop-i.invariant (search rules)
-
 pub returns : goal.returns
-returns c = lowering_put c.loop-i.invariant (search rules)
+returns c = rw c.copy_within.ensures.after (taken_out c.args.order.now c.args.n c.args.at c.requires)

@@ -1,12 +1,8 @@
 -- Each slot is looked up before its name is read, and each name is at least one more than the last.
-use Prim.Native.Nat.{◌-◌}
 use Rattle.pool.specs.Slots.{entries}
 use Rattle.sorted_index.specs.Names.{names}
 use Rattle.soundness.proofs.Ordering.{OrderedTo}
 use Rattle.soundness.proofs.index.is_ordered.Given as goal
 
-abbrev pub invariant-loop-i : goal.invariant-loop-i
-invariant-loop-i l = OrderedTo (names l.by (entries l.slots)) l.order l.marks l.least l.i
-
-abbrev pub decreases-loop-i : goal.decreases-loop-i
-decreases-loop-i l = l.n - l.i
+abbrev pub invariant-loop-s : goal.invariant-loop-s
+invariant-loop-s l = OrderedTo (names l.by (entries l.slots)) l.order l.marks l.least l.s-index

@@ -1,5 +1,4 @@
 -- Every slot that was passed is as its mark says.
-use Prim.Native.Nat.{◌-◌}
 use lib.ListN.{get_or}
 use Rattle.free_marks.specs.Marks.{bit_at}
 use Rattle.pool.specs.Slots.{entries, blank}
@@ -9,6 +8,3 @@ use Rattle.soundness.proofs.slots.all_slots_good.Given as goal
 
 abbrev pub invariant-loop-s : goal.invariant-loop-s
 invariant-loop-s l = Upto (λ j. SlotGood (bit_at l.marks j) (get_or (entries l.slots) j blank)) 0 l.s
-
-abbrev pub decreases-loop-s : goal.decreases-loop-s
-decreases-loop-s l = l.size - l.s

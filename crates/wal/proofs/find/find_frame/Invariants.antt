@@ -2,8 +2,5 @@
 use Rattle.wal.proofs.Descent.{Descent}
 use Rattle.wal.proofs.find.find_frame.Given as goal
 
-abbrev pub invariant-loop-left : goal.invariant-loop-left
-invariant-loop-left l = Descent l.page l.length l.log l.initial.left l.left l.at
-
-abbrev pub decreases-loop-left : goal.decreases-loop-left
-decreases-loop-left l = l.left
+abbrev pub invariant-loop-earlier : goal.invariant-loop-earlier
+invariant-loop-earlier l = Descent l.page l.fn.summary l.log l.length l.committed l.earlier

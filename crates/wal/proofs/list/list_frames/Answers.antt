@@ -1,15 +1,11 @@
--- The tests are made in the order of the answers, and then the lists are filled (proofs/Filling.antt).
-use Rattle.wal.proofs.Filling.{lists_other, lists_short, listable, lists_done}
+-- Each turn stores the two numbers of one frame (proofs/Filling.antt).
+use Rattle.std.proofs.Common.{arith}
+use Rattle.wal.proofs.Reach.{reach_within}
+use Rattle.wal.proofs.Filling.{filling_starts, filling_more}
 use Rattle.wal.proofs.list.list_frames.Goals as goal
 
-pub returns-then-not-reaches : goal.returns-then-not-reaches
-returns-then-not-reaches c = lists_other _ _ _ _ c.reaches.ensures c.if-not-reaches.true
+pub loop-i-init : goal.loop-i-init
+loop-i-init c = filling_starts (reach_within _ _ _ c.if-not-reaches.ensures) c.length-length.ensures
 
-pub returns-then-pages-count : goal.returns-then-pages-count
-returns-then-pages-count c = lists_short _ _ _ _ c.reaches.ensures c.if-not-reaches.false c.if-pages-count.true
-
-pub fill-requires : goal.fill-requires
-fill-requires c = listable _ _ _ _ _ c.reaches.ensures c.if-not-reaches.false c.if-pages-count.false
-
-pub returns : goal.returns
-returns c = lists_done _ _ _ _ c.reaches.ensures c.if-not-reaches.false c.if-pages-count.false c.fill.ensures
+pub loop-i-preserved : goal.loop-i-preserved
+loop-i-preserved c = filling_more c.loop-i.invariant (omega arith) (omega arith) c.number_at.ensures c.number_at-in-loop-i.ensures

@@ -1,9 +1,17 @@
--- The words are there, since what is still to be summed is (proofs/Summing.antt).
-use Rattle.wal_checksum.proofs.Summing.{summing_more, summing_done}
+-- The chunks are the pairs, and each has its two words (proofs/Summing.antt).
+use Rattle.std.proofs.Common.{arith}
+use Rattle.wal_checksum.proofs.Summing.{summing_begins, summing_more, summing_done}
 use Rattle.wal_checksum.proofs.sums.checksum.Goals as goal
 
-pub loop-left-preserved : goal.loop-left-preserved
-loop-left-preserved c = summing_more c.loop-left.invariant c.loop-left-test.true c.word_at.ensures c.word_at-in-loop-left.ensures c.add_pair-s.ensures
+pub loop-pair-init : goal.loop-pair-init
+loop-pair-init c =
+    rw c.into_iter-pair-iterator.ensures.into_iter_gives
+    (summing_begins (omega arith) c.chunks_exact-pair-items.ensures.rest c.requires c.chunks_exact-pair-items.ensures.size)
+
+pub loop-pair-preserved : goal.loop-pair-preserved
+loop-pair-preserved c =
+    let steps = c.in-Some.ensures.steps in
+    summing_more c.loop-pair.invariant _ steps.0 steps.1.0 steps.1.1 c.word_at.ensures c.word_at-in-loop-pair.ensures c.add_pair-s.ensures
 
 pub returns : goal.returns
-returns c = summing_done c.loop-left.invariant c.loop-left-test.false
+returns c = summing_done c.loop-pair.invariant c.in-None.ensures.steps.1.0

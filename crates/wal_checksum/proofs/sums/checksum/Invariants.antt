@@ -2,8 +2,5 @@
 use Rattle.wal_checksum.proofs.Summing.{Summing}
 use Rattle.wal_checksum.proofs.sums.checksum.Given as goal
 
-abbrev pub invariant-loop-left : goal.invariant-loop-left
-invariant-loop-left l = Summing l.big l.bytes l.at l.pairs l.initial.s l.next l.left l.s
-
-abbrev pub decreases-loop-left : goal.decreases-loop-left
-decreases-loop-left l = l.left
+abbrev pub invariant-loop-pair : goal.invariant-loop-pair
+invariant-loop-pair l = Summing l.big l.bytes l.at l.pairs l.initial.s l.pair-iterator.size l.pair-iterator.rest.now l.s

@@ -3,8 +3,8 @@ use Rattle.std.proofs.Common.{length, ◌-◌}
 use Rattle.wal_frames.proofs.Turns.{Reading}
 use Rattle.wal_frames.proofs.scanning.scan_frames.Given as goal
 
-abbrev pub invariant-loop-s : goal.invariant-loop-s
-invariant-loop-s l = Reading l.log l.initial.s l.s
+abbrev pub invariant-loop-frame : goal.invariant-loop-frame
+invariant-loop-frame l = Reading l.fn.header l.log l.s
 
-abbrev pub decreases-loop-s : goal.decreases-loop-s
-decreases-loop-s l = length l.log - l.s.end
+abbrev pub decreases-loop-frame : goal.decreases-loop-frame
+decreases-loop-frame l = length l.log - l.s.end

@@ -1,2 +1,0 @@
-mod SizeTests
-mod FieldTests

@@ -1,5 +1,0 @@
--- Each block uses up a turn.
-use Rattle.replay.proofs.replay.Given as goal
-
-abbrev pub decreases-loop-turns : goal.decreases-loop-turns
-decreases-loop-turns g l = l.turns

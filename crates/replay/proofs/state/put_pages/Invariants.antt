@@ -1,9 +1,0 @@
--- A page takes at most 84 bytes.
-use Rattle.std.proofs.Common.{◌+◌, ◌-◌, ◌*◌, ◌≤◌}
-use Rattle.replay.proofs.state.put_pages.Given as goal
-
-abbrev pub invariant-loop-i : goal.invariant-loop-i
-invariant-loop-i l = (l.i ≤ 256) × (l.next ≤ l.at + 84 * l.i)
-
-abbrev pub decreases-loop-i : goal.decreases-loop-i
-decreases-loop-i l = 256 - l.i

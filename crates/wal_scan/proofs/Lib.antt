@@ -1,2 +1,0 @@
-mod Going
-mod Sized
