@@ -12,7 +12,7 @@ import crate_map
 USE = re.compile(r'^(ghost )?use ([^\s{;]+?)(?:(?:\.|::)\{([^}]*)\}| as ([^\s;]+))?;?$', re.MULTILINE)
 CLAUSE = re.compile(r'^ *(?:(?:pub )?ghost \w+(?::| =)|(?:requires|ensures)(?: \w+)?) \{.*?\}[;,]?$', re.MULTILINE | re.DOTALL)
 # A trait of std may be brought in for the calls of what it has: by these words it is said, too.
-CALLED = {'Write': {'write', 'write_all'}}
+CALLED = {'Write': {'write', 'writeln', 'write_all'}}
 
 
 def brought(use):

@@ -8,14 +8,12 @@ use input::fill;
 use std::io::{Error, ErrorKind, Read, Seek, SeekFrom};
 
 // The largest page.
-const PIECE: usize = 65536;
+pub const PIECE: usize = 65536;
 
 #[derive(Drop)]
 pub struct DatabaseFile<F> {
     file: F,
     pub database: Database,
-    // For the bytes of a page.
-    piece: [u8; PIECE],
     ghost fits: { database.page_size ≤ 65536 },
 }
 
@@ -31,15 +29,11 @@ pub struct Checked {
 impl<F: Read + Seek + Drop> DatabaseFile<F> {
     // Reads the header.
     pub fn open(mut file: F) -> Result<DatabaseFile<F>, Failure> {
-        let mut piece = [0u8; PIECE];
-        let (count, read) = fill(&mut file, &mut piece[..HEADER_LENGTH]);
+        let mut piece = [0u8; HEADER_LENGTH];
+        let (count, read) = fill(&mut file, &mut piece);
         read?;
         let database = database_header::open(&piece[..count])?;
-        Ok(DatabaseFile {
-            file,
-            database,
-            piece,
-        })
+        Ok(DatabaseFile { file, database })
     }
 
     // To the place where the page begins.
@@ -57,13 +51,17 @@ impl<F: Read + Seek + Drop> DatabaseFile<F> {
         }
     }
 
-    // Checks the page at which the file stands, if the file has a byte of it.
-    pub fn check_page(&mut self, number: u32) -> Result<Option<Checked>, Error> {
+    // Checks the page at which the file stands, if the file has a byte of it. The piece is for its bytes. It is lent: in a field it would be
+    // copied with each value that has the file in it.
+    pub fn check_page(
+        &mut self,
+        piece: &mut [u8; PIECE],
+        number: u32,
+    ) -> Result<Option<Checked>, Error> {
         let Database {
             page_size,
             reserved,
         } = self.database;
-        let piece = &mut self.piece[..];
         let (count, read) = fill(&mut self.file, &mut piece[..page_size as usize]);
         read?;
         if count == 0 {

@@ -1,6 +1,6 @@
 // The pages one after another.
 use crate::asking::Pages;
-use crate::database_file::DatabaseFile;
+use crate::database_file::{DatabaseFile, PIECE};
 use crate::failure::Failure;
 use crate::lines;
 use crate::totals::Totals;
@@ -14,10 +14,12 @@ pub fn check_pages(
     pages: Pages,
 ) -> Result<(), Failure> {
     file.go_to_page(pages.first)?;
+    output.begin_line()?;
     lines::write_sizes(output, file.database)?;
+    let mut piece = [0u8; PIECE];
     let mut totals = Totals::none();
     for number in pages.first..=pages.last {
-        let Some(checked) = file.check_page(number)? else {
+        let Some(checked) = file.check_page(&mut piece, number)? else {
             break;
         };
         output.begin_line()?;

@@ -1,7 +1,10 @@
 // The records of a block of input, one after another.
+ghost use Rattle.std.specs.Prelude.{◌+◌, ◌≤◌, OnOk};
+
 use crate::cache::Cache;
 use crate::line::{write_answer, write_bad};
 use crate::state::write_state;
+use answer::Answered;
 use input::fill;
 use std::fmt;
 use std::io::Read;
@@ -34,19 +37,42 @@ pub fn replay(
     Ok(count == BLOCK)
 }
 
+// Each line is begun where there is room for it, so that none is split; after the last there is room for `bad`.
 fn answer_all(
     output: &mut Output<'_, impl Print>,
     cache: &mut Cache,
     records: &[[u8; RECORD]],
     states: bool,
-) -> fmt::Result {
+) -> fmt::Result
+    ensures { output.new.end ≤ 131000 }
+{
+    // For `bad`, if there is no record.
+    output.begin_line()?;
     for record in records {
         output.begin_line()?;
         let answered = cache.apply(record);
-        write_answer(output, cache, answered)?;
-        if states {
-            write_state(output, cache)?;
+        if let Err(closed) = write_lines(output, cache, answered, states) {
+            // What could not be written is dropped already: this writes nothing, and tells it.
+            let _ = output.flush();
+            return Err(closed);
         }
+    }
+    Ok(())
+}
+
+// The line of an answer, and if asked the line of the pool that it left.
+fn write_lines(
+    output: &mut Output<'_, impl Print>,
+    cache: &Cache,
+    answered: Answered,
+    states: bool,
+) -> fmt::Result
+    requires { output.old.end + 28000 ≤ 131072 }
+    ensures { OnOk result (output.new.end ≤ output.old.end + 28000) }
+{
+    write_answer(output, cache, answered)?;
+    if states {
+        write_state(output, cache)?;
     }
     Ok(())
 }

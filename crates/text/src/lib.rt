@@ -11,4 +11,4 @@ mod messages;
 mod output;
 
 pub use messages::{Reason, say};
-pub use output::Output;
+pub use output::{Output, ROOM};

@@ -1,10 +1,11 @@
 // The output, put together in memory.
-ghost use Rattle.std.specs.Prelude.{◌≡◌, ◌≤◌, OnOk};
+ghost use Rattle.std.specs.Prelude.{◌≡◌, ◌+◌, ◌≤◌, IsOk, length};
+ghost use Rattle.text.specs.Output.{PutAtEnd};
 
 use std::fmt;
 
 // The bytes of the output.
-const ROOM: usize = 131072;
+pub const ROOM: usize = 131072;
 
 // Above this the output is full: 31,072 bytes are left for a line.
 const FULL: usize = 100000;
@@ -35,7 +36,7 @@ impl<'a, P: Print> Output<'a, P> {
 
     // Before a line: writes the output out if it is full, so that the line is not split.
     pub fn begin_line(&mut self) -> fmt::Result
-        ensures { OnOk result (self.new.end ≤ 100000) }
+        ensures { self.new.end ≤ 100000 }
     {
         if self.end > FULL {
             self.flush()?;
@@ -64,8 +65,13 @@ impl<'a, P: Print> Output<'a, P> {
 }
 
 impl<P: Print> fmt::Write for Output<'_, P> {
+    ghost write_str_gives = { λ old text new. PutAtEnd old.end text new.end };
+
     #[inline(always)]
-    fn write_str(&mut self, text: &str) -> fmt::Result {
+    fn write_str(&mut self, text: &str) -> fmt::Result
+        ensures ok { IsOk result → PutAtEnd self.old.end text.now self.new.end }
+        ensures room { self.old.end + length text.now ≤ 131072 → IsOk result }
+    {
         let bytes = text.as_bytes();
         if bytes.len() > ROOM - self.end {
             return self.write_past_end(bytes);
