@@ -1,5 +1,5 @@
 pub mod Agreeing
-mod Same
+mod SameEqual
 pub mod Shifting
 mod Summing
 mod Wrapping

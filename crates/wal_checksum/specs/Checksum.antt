@@ -36,6 +36,5 @@ checksum big bytes at (suc pairs) s = checksum big bytes (at + 8) pairs (paired 
 abbrev pub sums_at : List ℕ → (at : ℕ) → Sums
 sums_at bytes at = record { s0 = big_endian bytes at; s1 = big_endian bytes (at + 4) }
 
--- what `==` says of two
 abbrev pub same_sums : Sums → Sums → Bool
 same_sums a b = a.s0 == b.s0 && a.s1 == b.s1

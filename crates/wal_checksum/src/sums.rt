@@ -1,6 +1,6 @@
 // The two sums.
 ghost use Rattle.std.specs.Prelude.{◌≡◌, ◌+◌, ◌*◌, ◌≤◌, length};
-ghost use Rattle.wal_checksum.specs.Checksum.{sums_at, paired, checksum};
+ghost use Rattle.wal_checksum.specs.Checksum.{same_sums, sums_at, paired, checksum};
 
 use crate::number::{number_at, word_at};
 
@@ -11,6 +11,13 @@ pub struct Sums {
     pub s0: u32,
     // The same of all words.
     pub s1: u32,
+}
+
+// Whether two are the same.
+pub fn same(a: Sums, b: Sums) -> bool
+    ensures { result ≡ same_sums a b }
+{
+    a == b
 }
 
 // The sums that are stored at a place.
@@ -24,16 +31,16 @@ pub fn sums_at(bytes: &[u8], at: usize) -> Sums
     }
 }
 
-// The sums after `pairs` pairs of words, from place `at` on, that follow what `sums` has summed. Each chunk of 8 bytes is a pair.
-// The place is one of the whole log, as in the definitions: of a part that is lent a caller would have to show that it has the
-// log's words.
+// The sums after `pairs` pairs of words, from place `at` on, that follow what `sums` has summed. The place is one of the whole log, as in
+// the definitions: of a part that is lent a caller would have to show that it has the log's words.
 pub fn checksum(bytes: &[u8], at: usize, pairs: usize, big: bool, sums: Sums) -> Sums
     requires { at + 8 * pairs ≤ length bytes.now }
     ensures { result ≡ checksum big bytes.now at pairs sums }
 {
     let mut s = sums;
-    for pair in bytes[at..at + 8 * pairs].chunks_exact(8) {
-        s = add_pair(word_at(pair, 0, big), word_at(pair, 4, big), s);
+    for i in 0..pairs {
+        let next = at + 8 * i;
+        s = add_pair(word_at(bytes, next, big), word_at(bytes, next + 4, big), s);
     }
     s
 }

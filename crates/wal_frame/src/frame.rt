@@ -2,7 +2,7 @@
 ghost use Rattle.std.specs.Prelude.{◌≡◌, ◌+◌, ◌≤◌, length};
 ghost use Rattle.wal_frame.specs.Frame.{frame_length, salted, sums_after, frame_at, next_at};
 
-use wal_checksum::{Sums, checksum, number_at, sums_at};
+use wal_checksum::{Sums, checksum, number_at, same, sums_at};
 use wal_header::Header;
 
 #[derive(Clone, Copy, Debug, PartialEq, Eq)]
@@ -38,7 +38,7 @@ pub fn next_at(log: &[u8], at: usize, header: Header, sums: Sums) -> Option<Fram
         return None;
     }
     let frame = frame_at(log, at);
-    if sums_after(log, at, header, sums) != frame.sums {
+    if !same(sums_after(log, at, header, sums), frame.sums) {
         return None;
     }
     Some(frame)

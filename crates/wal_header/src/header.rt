@@ -5,7 +5,7 @@ ghost use Rattle.wal_header.specs.Header.{is_magic, opened};
 use page_size::is_page_size;
 use std::error::Error;
 use std::fmt;
-use wal_checksum::{Sums, checksum, number_at, sums_at};
+use wal_checksum::{Sums, checksum, number_at, same, sums_at};
 
 #[derive(Clone, Copy, Debug, PartialEq, Eq)]
 pub struct Header {
@@ -84,7 +84,7 @@ pub fn open(log: &[u8]) -> Result<Header, Fault>
     }
     let big = magic == MAGIC_BIG;
     let sums = checksum(log, 0, 3, big, Sums { s0: 0, s1: 0 });
-    if sums != sums_at(log, 24) {
+    if !same(sums, sums_at(log, 24)) {
         return Err(Fault::Checksum);
     }
     Ok(Header {

@@ -2,5 +2,5 @@
 use Rattle.wal_checksum.proofs.Summing.{Summing}
 use Rattle.wal_checksum.proofs.sums.checksum.Given as goal
 
-abbrev pub invariant-loop-pair : goal.invariant-loop-pair
-invariant-loop-pair l = Summing l.big l.bytes l.at l.pairs l.initial.s l.pair-iterator.size l.pair-iterator.rest.now l.s
+abbrev pub invariant-loop-i : goal.invariant-loop-i
+invariant-loop-i l = Summing l.big l.bytes l.at l.pairs l.initial.s l.i l.s
