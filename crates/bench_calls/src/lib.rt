@@ -6,7 +6,7 @@
 // does, and that the memory stays sound for the next one.
 #![tactic(auto)]
 
-ghost use Rattle.memory.specs.Memory.{memory_in};
+ghost use Rattle.memory.specs.Memory.{memory_in, SameSlices};
 ghost use Rattle.memory.specs.Holds.{Sound};
 
 use c_numbers::{HEAD, put_head, read_head};
@@ -26,7 +26,8 @@ fn run_one(
     head: PageCache,
 ) -> PageCache
     requires { Sound (memory_in memory.old) head }
-    ensures { Sound (memory_in memory.new) result }
+    ensures same { SameSlices memory.old memory.new }
+    ensures sound { Sound (memory_in memory.new) result }
 {
     let Some(asked) = decode(bytes) else {
         return head;
@@ -42,6 +43,7 @@ fn run_each(
     head: PageCache,
 ) -> PageCache
     requires { Sound (memory_in memory.old) head }
+    ensures same { SameSlices memory.old memory.new }
 {
     let mut now = head;
     for bytes in records.chunks_exact(RECORD) {

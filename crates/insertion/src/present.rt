@@ -32,7 +32,8 @@ pub fn present(
         let after = moves::replace_at(slots, by_handle, head, s, asked.handle, asked.page);
         return Answered::plain(Answer::Done(old.0), after);
     }
-    if old != asked.handle {
+    let other_page = old != asked.handle;
+    if other_page {
         return Answered::plain(Answer::OtherPage, head);
     }
     moves::touch_at(slots, s);

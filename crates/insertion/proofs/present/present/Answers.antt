@@ -17,8 +17,8 @@ pub returns-then-replaces : goal.returns-then-replaces
 returns-then-replaces c =
     rw c.plain.ensures (presents_replaced c.load.ensures (sym c.replaces.ensures ∙ c.if-replaces.true) c.touch_at.ensures c.replace_at-after.ensures)
 
-pub returns-then-ne : goal.returns-then-ne
-returns-then-ne c = rw c.plain-then-ne.ensures (presents_other c.load.ensures (sym c.replaces.ensures ∙ c.if-replaces.false) (search rules))
+pub returns-then-other_page : goal.returns-then-other_page
+returns-then-other_page c = rw c.plain-then-other_page.ensures (presents_other c.load.ensures (sym c.replaces.ensures ∙ c.if-replaces.false) (search rules))
 
 pub touch_at-requires-2 : goal.touch_at-requires-2
 touch_at-requires-2 c = present_inside c.requires
